@@ -1,0 +1,7 @@
+pub mod Bits
+pub mod Numbers
+pub mod Steps
+pub mod Sums
+pub mod Entries
+pub mod Blocks
+pub mod Value

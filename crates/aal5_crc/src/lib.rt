@@ -1,0 +1,165 @@
+//! The check value of ITU-T I.363.5 (AAL5): the CRC-32 of polynomial `04C11DB7` whose register begins with all ones, that takes each byte's most
+//! significant bit first, and whose result is complemented. No call takes memory.
+#![tactic(auto)]
+
+ghost use Rattle.std.specs.Prelude.{◌≡◌, ℕ, ◌<◌, List, [], ◌++◌, length, IsTrue};
+ghost use Rattle.frame_spec.specs.Checksum.{bits_of, message_bits, crc};
+ghost use Rattle.aal5_crc.specs.Register.{after_bits, entry_bits, table_is_right};
+
+mod table;
+
+use std::marker::Model;
+use table::TABLE;
+
+/// A check value that is taken piece by piece: [`Crc::value`] is that of all bytes added so far, however they were cut.
+#[derive(Clone, Copy, Debug, PartialEq, Eq)]
+pub struct Crc {
+    register: u32,
+}
+
+impl Model for Crc {
+    ghost use Rattle.std.specs.Prelude.{ℕ, ◌-◌, ◌^◌, ◌<◌};
+
+    ghost Value = { ℕ };
+
+    ghost view = { λ c. 2 ^ 32 - 1 - c.register };
+
+    ghost invariant = { λ c. c.register < 2 ^ 32 };
+
+    ghost inverse = { λ n. record { register = 2 ^ 32 - 1 - n } };
+}
+
+impl Crc {
+    /// The check value of no bytes yet.
+    pub fn new() -> Self
+        ensures value { result ≡ crc [] }
+    {
+        Crc {
+            register: 0xffff_ffff,
+        }
+    }
+
+    /// Adds bytes at the end.
+    pub fn add(&mut self, bytes: &[u8])
+        ensures value { (before : List ℕ) → self.old ≡ crc before → self.new ≡ crc (before ++ bytes.now) }
+    {
+        self.register = advanced(&TABLE, self.register, bytes);
+    }
+
+    /// The check value of all bytes added.
+    pub fn value(&self) -> u32
+        ensures value { result ≡ self.now }
+    {
+        !self.register
+    }
+}
+
+/// The check value of these bytes.
+pub fn crc_of(bytes: &[u8]) -> u32
+    ensures value { result ≡ crc bytes.now }
+{
+    let mut crc = Crc::new();
+    crc.add(bytes);
+    crc.value()
+}
+
+// The register after these bytes: eight at a time, and the last ones one at a time.
+fn advanced(table: &[u32; 2048], register: u32, bytes: &[u8]) -> u32
+    requires { IsTrue (table_is_right table.now) }
+    ensures bits { bits_of 32 result ≡ after_bits (bits_of 32 register) (message_bits bytes.now) }
+{
+    let mut register = register;
+    let mut place = 0;
+    while bytes.len() - place >= 8 {
+        register = after_block(table, register, &bytes[place..place + 8]);
+        place += 8;
+    }
+    after_rest(table, register, &bytes[place..])
+}
+
+// The register after these bytes, one at a time.
+fn after_rest(table: &[u32; 2048], register: u32, bytes: &[u8]) -> u32
+    requires { IsTrue (table_is_right table.now) }
+    ensures bits { bits_of 32 result ≡ after_bits (bits_of 32 register) (message_bits bytes.now) }
+{
+    let mut register = register;
+    for byte in bytes {
+        register = after_byte(table, register, *byte);
+    }
+    register
+}
+
+// The register after eight more bytes. It is added to the first four of them, and each byte then counts by itself, with those after it as zeros.
+fn after_block(table: &[u32; 2048], register: u32, block: &[u8]) -> u32
+    requires right { IsTrue (table_is_right table.now) }
+    requires whole { length block.now ≡ 8 }
+    ensures bits { bits_of 32 result ≡ after_bits (bits_of 32 register) (message_bits block.now) }
+{
+    let [a, b, c, d] = register.to_be_bytes();
+    entry(table, 7, a ^ block[0])
+        ^ entry(table, 6, b ^ block[1])
+        ^ entry(table, 5, c ^ block[2])
+        ^ entry(table, 4, d ^ block[3])
+        ^ entry(table, 3, block[4])
+        ^ entry(table, 2, block[5])
+        ^ entry(table, 1, block[6])
+        ^ entry(table, 0, block[7])
+}
+
+// The register after one more byte.
+fn after_byte(table: &[u32; 2048], register: u32, byte: u8) -> u32
+    requires { IsTrue (table_is_right table.now) }
+    ensures bits { bits_of 32 result ≡ after_bits (bits_of 32 register) (bits_of 8 byte) }
+{
+    entry(table, 0, (register >> 24) as u8 ^ byte) ^ (register << 8)
+}
+
+// What the byte and so many zero bytes leave in a register of zeros.
+#[inline]
+fn entry(table: &[u32; 2048], zeros: usize, byte: u8) -> u32
+    requires right { IsTrue (table_is_right table.now) }
+    requires within { zeros < 8 }
+    ensures bits { bits_of 32 result ≡ entry_bits zeros byte }
+{
+    table[256 * zeros + byte as usize]
+}
+
+#[cfg(test)]
+mod tests {
+    use super::*;
+
+    // The values are those of a program that shifts one bit at a time, and of the standard's examples.
+    #[test]
+    fn gives_known_values(rt: HostRuntime) {
+        let mut image = [0u8; 63];
+        image[..4].copy_from_slice(&[0xff; 4]);
+        image[62] = 1;
+        let mut counted = [0u8; 256];
+        for place in 0..256 {
+            counted[place] = place as u8;
+        }
+        let cases: [(&[u8], u32); 8] = [
+            (&[], 0),
+            (&[0xff], 0x0000_00ff),
+            (&[0xff; 2], 0x0000_ffff),
+            (&[0xff; 4], 0xffff_ffff),
+            (&[0; 7], 0x7efb_36b9),
+            (b"123456789", 0xfc89_1918),
+            (&image, 0xfb3e_e248),
+            (&counted, 0xb6b5_ee95),
+        ];
+        for (bytes, want) in cases {
+            assert_eq!(rt; crc_of(bytes), want, "at once, {} bytes", bytes.len());
+            let mut crc = Crc::new();
+            for byte in bytes {
+                crc.add(&[*byte]);
+            }
+            assert_eq!(rt;
+                crc.value(),
+                want,
+                "one byte at a time, {} bytes",
+                bytes.len()
+            );
+        }
+    }
+}

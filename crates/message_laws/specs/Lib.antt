@@ -1,0 +1,3 @@
+pub mod Exchanges
+pub mod Faults
+pub mod Padding

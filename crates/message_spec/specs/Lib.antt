@@ -1,0 +1,6 @@
+pub mod Fields
+pub mod Types
+pub mod Requests
+pub mod Responses
+pub mod Reading
+pub mod Text

@@ -1,0 +1,13 @@
+//! The unit's database and what each request does to it. The crate has types and definitions alone.
+#![tactic(auto)]
+
+/// What became of a value that the unit measured.
+#[derive(Clone, Copy, Debug, PartialEq, Eq)]
+pub enum Sensed {
+    /// The value may not be measured, and nothing has changed.
+    NotAllowed,
+    /// The attribute holds this value already.
+    Same,
+    /// The attribute holds the value now.
+    Changed,
+}

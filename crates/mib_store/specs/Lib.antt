@@ -1,0 +1,4 @@
+pub mod Layout
+pub mod Step
+pub mod Entries
+pub mod Admitted

@@ -1,0 +1,26 @@
+//! What a set and a get answer.
+
+use omci_attributes::Mask;
+use omci_types::Code;
+
+/// The answer to a set. The masks are zero but with the code 9.
+#[derive(Clone, Copy, Debug, PartialEq, Eq)]
+pub struct SetAnswer {
+    pub code: Code,
+    /// The named attributes that the class doesn't have.
+    pub unsupported: Mask,
+    /// Those that may not be written.
+    pub failed: Mask,
+}
+
+/// The answer to a get. Mask and values are zero but with the codes 0 and 9.
+#[derive(Clone, Copy, Debug, PartialEq, Eq)]
+pub struct GetAnswer {
+    pub code: Code,
+    /// The named attributes that the class has.
+    pub mask: Mask,
+    /// Their values, one after the other in attribute order, and zeros after them.
+    pub values: [u8; 25],
+    /// The named attributes that the class doesn't have, with the code 9.
+    pub unsupported: Mask,
+}

@@ -1,0 +1,20 @@
+//! The unit's database: a sorted table of the entities with the bytes of their attributes.
+#![tactic(auto)]
+
+mod admit;
+mod answers;
+mod entry;
+mod first;
+mod layout;
+mod mib;
+mod requests;
+mod table;
+
+pub use answers::{GetAnswer, SetAnswer};
+pub use mib::Mib;
+pub use mib_spec::Sensed;
+pub use omci_attributes::Mask;
+pub use omci_core::NoMemory;
+
+#[cfg(test)]
+mod tests;

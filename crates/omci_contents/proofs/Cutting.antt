@@ -1,0 +1,53 @@
+-- Zeros at the end are cut one by one, and the first other byte from the end stays.
+use Rattle.std.proofs.Common.{◌≡◌, ℕ, zero, suc, ◌+◌, ◌-◌, ◌<◌, ◌≤◌, List, [], ◌∷◌, ◌++◌, length, take, get_or, refl, sym, ap, subst, ◌∙◌, arith}
+use Rattle.std.proofs.lemmas.List.{take_more}
+use Rattle.message_spec.specs.Text.{cut, before_cut}
+
+cut_zero : (bytes : List ℕ) → cut (bytes ++ 0 ∷ []) ≡ cut bytes
+unfolding cut
+cut_zero [] = refl
+cut_zero (byte ∷ bytes) = ap (before_cut byte) (cut_zero bytes)
+
+before_some : (byte next : ℕ) (rest : List ℕ) → before_cut byte (next ∷ rest) ≡ byte ∷ next ∷ rest
+before_some zero next rest = refl
+before_some (suc byte) next rest = refl
+
+before_last : (byte : ℕ) (bytes : List ℕ) (last : ℕ) → before_cut byte (bytes ++ last ∷ []) ≡ byte ∷ (bytes ++ last ∷ [])
+before_last byte [] last = before_some byte last []
+before_last byte (next ∷ bytes) last = before_some byte next (bytes ++ last ∷ [])
+
+cut_other : (bytes : List ℕ) (last : ℕ) → cut (bytes ++ suc last ∷ []) ≡ bytes ++ suc last ∷ []
+unfolding cut
+cut_other [] last = refl
+cut_other (byte ∷ bytes) last = ap (before_cut byte) (cut_other bytes last) ∙ before_last byte bytes (suc last)
+
+last_taken : (bytes : List ℕ) (n : ℕ) → 0 < n → n ≤ length bytes → take n bytes ≡ take (n - 1) bytes ++ get_or bytes (n - 1) 0 ∷ []
+last_taken bytes n some within =
+    let below : n - 1 < length bytes = omega arith in
+    let whole : n - 1 + 1 ≡ n = omega arith in
+    subst (λ (k : ℕ). take k bytes ≡ take (n - 1) bytes ++ get_or bytes (n - 1) 0 ∷ []) whole (take_more bytes (n - 1) 0 below)
+
+-- a zero at the end of the first n bytes is cut
+pub cut_shorter : (bytes : List ℕ) (n : ℕ) → 0 < n → n ≤ length bytes → get_or bytes (n - 1) 0 ≡ 0 → cut (take (n - 1) bytes) ≡ cut (take n bytes)
+cut_shorter bytes n some within zero_there =
+    let split : take n bytes ≡ take (n - 1) bytes ++ 0 ∷ [] = subst (λ (b : ℕ). take n bytes ≡ take (n - 1) bytes ++ b ∷ []) zero_there (last_taken bytes n some within) in
+    sym (ap cut split ∙ cut_zero (take (n - 1) bytes))
+
+other : (front : List ℕ) (last : ℕ) → (last ≡ 0 → ⊥) → cut (front ++ last ∷ []) ≡ front ++ last ∷ []
+other front zero differs = absurd (differs refl)
+other front (suc last) differs = cut_other front last
+
+-- the first n bytes stay where the last of them is no zero
+pub cut_whole : (bytes : List ℕ) (n : ℕ) → 0 < n → n ≤ length bytes → (get_or bytes (n - 1) 0 ≡ 0 → ⊥) → cut (take n bytes) ≡ take n bytes
+cut_whole bytes n some within differs =
+    let split = last_taken bytes n some within in
+    ap cut split ∙ other (take (n - 1) bytes) (get_or bytes (n - 1) 0) differs ∙ sym split
+
+taken_none : (bytes : List ℕ) → cut (take 0 bytes) ≡ take 0 bytes
+unfolding cut
+taken_none [] = refl
+taken_none (byte ∷ bytes) = refl
+
+-- of no bytes nothing is left
+pub cut_none : (bytes : List ℕ) (n : ℕ) → n ≡ 0 → cut (take n bytes) ≡ take n bytes
+cut_none bytes n none = subst (λ (k : ℕ). cut (take k bytes) ≡ take k bytes) (sym none) (taken_none bytes)

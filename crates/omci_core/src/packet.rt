@@ -1,0 +1,172 @@
+ghost use Rattle.std.specs.Prelude.{◌≡◌, ◌==◌, ◌+◌, ◌<◌, ◌≤◌, [], ◌∷◌, ◌++◌, length, take, OnOk, OnErr, slice_get};
+
+use crate::errors::NoMemory;
+use std::alloc::Global;
+use std::fmt;
+use std::marker::Model;
+
+/// The most bytes of a packet: an extended frame has at most so many.
+pub const MAX_PACKET_BYTES: usize = 1_980;
+
+/// A packet of the OMCI channel: at most 1,980 bytes, in place. Contracts see the list of its bytes.
+#[derive(Drop)]
+pub struct Packet {
+    bytes: [u8; MAX_PACKET_BYTES],
+    len: usize,
+}
+
+impl Model for Packet {
+    ghost use Rattle.std.specs.Prelude.{ℕ, ◌≤◌, List, take};
+
+    ghost Value = { List ℕ };
+
+    ghost view = { λ p. take p.len p.bytes };
+
+    ghost invariant = { λ p. p.len ≤ 1980 };
+}
+
+impl Packet {
+    /// A packet of no bytes.
+    pub fn new() -> Packet
+        ensures empty { result ≡ [] }
+    {
+        Packet {
+            bytes: [0; MAX_PACKET_BYTES],
+            len: 0,
+        }
+    }
+
+    /// The packet's bytes.
+    pub fn bytes(&self) -> &[u8]
+        ensures value { result.now ≡ self.now }
+        ensures bound { length self.now ≤ MAX_PACKET_BYTES }
+    {
+        &self.bytes[..self.len]
+    }
+
+    /// How many bytes the packet has.
+    pub fn len(&self) -> usize
+        ensures value { result ≡ length self.now }
+        ensures bound { result ≤ MAX_PACKET_BYTES }
+    {
+        self.len
+    }
+
+    /// Whether the packet has no byte.
+    pub fn is_empty(&self) -> bool
+        ensures value { result ≡ (length self.now == 0) }
+    {
+        self.len == 0
+    }
+
+    /// Takes every byte away.
+    pub fn clear(&mut self)
+        ensures empty { self.new ≡ [] }
+    {
+        self.len = 0;
+    }
+
+    /// Makes these the packet's bytes, in place of those that it had.
+    pub fn put(&mut self, bytes: &[u8])
+        requires { length bytes.now ≤ MAX_PACKET_BYTES }
+        ensures replaced { self.new ≡ bytes.now }
+    {
+        self.bytes[..bytes.len()].copy_from_slice(bytes);
+        self.len = bytes.len();
+    }
+
+    /// Adds these bytes at the packet's end.
+    pub fn append(&mut self, bytes: &[u8])
+        requires { length self.old + length bytes.now ≤ MAX_PACKET_BYTES }
+        ensures appended { self.new ≡ self.old ++ bytes.now }
+    {
+        put_at(&mut self.bytes, self.len, bytes);
+        self.len += bytes.len();
+    }
+}
+
+impl Default for Packet {
+    ghost is_default = { λ packet. packet ≡ [] };
+
+    fn default() -> Packet {
+        Packet::new()
+    }
+}
+
+impl fmt::Debug for Packet {
+    fn fmt<W: fmt::Write>(&self, f: &mut fmt::Formatter<W>) -> fmt::Result {
+        fmt::Debug::fmt(&self.bytes(), f)
+    }
+}
+
+/// Writes `bytes` from the place `at` on.
+fn put_at(into: &mut [u8], at: usize, bytes: &[u8])
+    requires { at + length bytes.now ≤ length into.old }
+    ensures front { take (at + length bytes.now) into.new ≡ take at into.old ++ bytes.now }
+    ensures len { length into.new ≡ length into.old }
+{
+    into[at..at + bytes.len()].copy_from_slice(bytes);
+}
+
+/// A list of packets. Contracts see a list of lists of bytes.
+#[derive(Debug, Drop)]
+pub struct Packets {
+    packets: Vec<Packet>,
+}
+
+impl Model for Packets {
+    ghost use Rattle.std.specs.Prelude.{ℕ, List};
+
+    ghost Value = { List (List ℕ) };
+
+    ghost view = { λ p. p.packets.items };
+}
+
+impl Packets {
+    /// No packets.
+    pub fn new(alloc: Global) -> Packets
+        ensures empty { result ≡ [] }
+    {
+        Packets {
+            packets: Vec::new(alloc),
+        }
+    }
+
+    /// Adds the packet at the end. `NoMemory` where there is no room for it; the list is then as it was.
+    pub fn push(&mut self, packet: Packet) -> Result<(), NoMemory>
+        ensures ok { OnOk result (self.new ≡ self.old ++ packet ∷ []) }
+        ensures err { OnErr result (self.new ≡ self.old) }
+    {
+        self.packets.push(packet)?;
+        Ok(())
+    }
+
+    /// How many packets there are.
+    pub fn len(&self) -> usize
+        ensures value { result ≡ length self.now }
+    {
+        self.packets.len()
+    }
+
+    /// Whether there is no packet.
+    pub fn is_empty(&self) -> bool
+        ensures value { result ≡ (length self.now == 0) }
+    {
+        self.packets.is_empty()
+    }
+
+    /// The packet at this place, counted from 0.
+    pub fn get(&self, place: usize) -> &Packet
+        requires { place < length self.now }
+        ensures value { slice_get self.now place ≡ Some result.now }
+    {
+        &self.packets[place]
+    }
+
+    /// Takes every packet away.
+    pub fn clear(&mut self)
+        ensures empty { self.new ≡ [] }
+    {
+        self.packets.clear();
+    }
+}

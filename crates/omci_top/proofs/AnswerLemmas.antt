@@ -1,0 +1,68 @@
+-- What the answer to an input says, from what a run of it came to.
+use Rattle.std.proofs.Common.{◌≡◌, ℕ, List, Option, Some, Ok, Err, sym, ◌∙◌, ap, subst, inr}
+use Rattle.std.specs.Io.KnownBytes.{Appends}
+use Rattle.script_spec.specs.Script.{Script}
+use Rattle.script_spec.specs.Grammar.{Writes}
+use Rattle.script_spec.specs.Fault.{fault}
+use Rattle.script_spec.specs.Reading.{reading}
+use Rattle.script_laws.proofs.Scripts.{reading-Writes, reading_range}
+use Rattle.world_spec.specs.Trace.{trace}
+use Rattle.world_spec.specs.History.{history_of, Once, Answered}
+use Rattle.world_laws.proofs.Runs.{history-once, history-answered}
+use Rattle.omci_top.specs.Streams.{ReadsWhole}
+use Rattle.omci_top.specs.Texts.{input_text, answer_of, answer_to}
+use Rattle.omci_top.specs.declared.status.Status.{Status}
+use Rattle.omci_top.specs.declared.status.Status.TheVariants.{Done, Usage, Input, ReadFault, WriteFault, TooLong, NoMemory}
+use Rattle.omci_top.specs.Answers.{Ran, Told, Ends, WritesFront, AnswersReplay}
+
+pub answer_to_script : (input : List ℕ) (script : Script) → reading input ≡ Ok script → answer_to input ≡ trace script
+unfolding answer_to
+answer_to_script input script e = ap answer_of e
+
+pub answer_to_fault : (input : List ℕ) (place reason : ℕ) → reading input ≡ Err (place, reason) → answer_to input ≡ input_text place reason
+unfolding answer_to
+answer_to_fault input place reason e = ap answer_of e
+
+-- a script was run
+pub Ends-ran : (s : Status) (script : Script) (input : List ℕ) (before now : Option (List ℕ)) (faults_before faults_now : ℕ) → Writes script input → answer_to input ≡ trace script → Ran s (trace script) before now faults_before faults_now → Ends s input before now faults_before faults_now
+Ends-ran Done script input before now fb fn spelled is ran = ((script, spelled, ran.0), ran.1)
+Ends-ran Usage script input before now fb fn spelled is ran = elim ran [ ]
+Ends-ran (Input place reason) script input before now fb fn spelled is ran = elim ran [ ]
+Ends-ran ReadFault script input before now fb fn spelled is ran = elim ran [ ]
+Ends-ran WriteFault script input before now fb fn spelled is ran = (subst (λ text. WritesFront text before now) (sym is) ran.0, ran.1)
+Ends-ran TooLong script input before now fb fn spelled is ran = elim ran [ ]
+Ends-ran NoMemory script input before now fb fn spelled is ran = (subst (λ text. WritesFront text before now) (sym is) ran.0, ran.1)
+
+-- a fault was told
+pub Ends-told : (s : Status) (place reason : ℕ) (input : List ℕ) (before now : Option (List ℕ)) (faults_before faults_now : ℕ) → fault input ≡ Some (place, reason) → answer_to input ≡ input_text place reason → Told s place reason before now faults_before faults_now → Ends s input before now faults_before faults_now
+Ends-told Done place reason input before now fb fn faulty is told = elim told [ ]
+Ends-told Usage place reason input before now fb fn faulty is told = elim told [ ]
+Ends-told (Input line why) place reason input before now fb fn faulty is told =
+    let same = ap (λ l. input_text l why) told.0 ∙ ap (input_text place) told.1 in
+    (faulty ∙ ap (λ l. Some (l, reason)) (sym told.0) ∙ ap (λ r. Some (line, r)) (sym told.1), subst (λ text. Appends before now text) (sym same) told.2, told.3)
+Ends-told ReadFault place reason input before now fb fn faulty is told = elim told [ ]
+Ends-told WriteFault place reason input before now fb fn faulty is told = (subst (λ text. WritesFront text before now) (sym is) told.0, told.1)
+Ends-told TooLong place reason input before now fb fn faulty is told = elim told [ ]
+Ends-told NoMemory place reason input before now fb fn faulty is told = (subst (λ text. WritesFront text before now) (sym is) told.0, told.1)
+
+-- the numbers of a script's header are in their ranges, so the laws of the machine hold of its history
+acts_once : (script : Script) (input : List ℕ) → Writes script input → Once (history_of script.header script.actions) × Answered (history_of script.header script.actions)
+acts_once script input spelled =
+    let ranges = reading_range input script (reading-Writes script input spelled) in
+    let header = ranges.header in
+    (history-once script.header script.actions header.low_some header.low_most, history-answered script.header script.actions header.low_some header.low_most)
+
+-- so the answer says of source and sink what it has to say
+pub AnswersReplay-ends : (s : Status) (input : List ℕ) (left_before left_now written_before written_now : Option (List ℕ)) (read_before read_now write_before write_now : ℕ) → ReadsWhole 16777216 left_before left_now input → read_now ≡ read_before → Ends s input written_before written_now write_before write_now → AnswersReplay s left_before left_now written_before written_now read_before read_now write_before write_now
+AnswersReplay-ends Done input lb ln wb wn rb rn kb kn read same ends =
+    let acts = acts_once ends.0.0 input ends.0.1 in
+    (record { input = input; script = ends.0.0; read = read; spelled = ends.0.1; traced = ends.0.2; once = acts.0; answered = acts.1 }, same, ends.1)
+AnswersReplay-ends Usage input lb ln wb wn rb rn kb kn read same ends = elim ends [ ]
+AnswersReplay-ends (Input place reason) input lb ln wb wn rb rn kb kn read same ends =
+    (record { input = input; read = read; faulty = ends.0; told = ends.1 }, same, ends.2)
+AnswersReplay-ends ReadFault input lb ln wb wn rb rn kb kn read same ends = elim ends [ ]
+AnswersReplay-ends WriteFault input lb ln wb wn rb rn kb kn read same ends =
+    (record { input = input; read = read; front = ends.0 }, same, ends.1)
+AnswersReplay-ends TooLong input lb ln wb wn rb rn kb kn read same ends = elim ends [ ]
+AnswersReplay-ends NoMemory input lb ln wb wn rb rn kb kn read same ends =
+    (inr (record { input = input; read = read; front = ends.0 }), same, ends.1)

@@ -1,0 +1,6 @@
+use Rattle.omci_top.proofs.AnswerLemmas.{AnswersReplay-ends}
+use Rattle.omci_top.proofs.replay.replay.Goals as goal
+
+pub returns-in-Ok-clause-answers : goal.returns-in-Ok-clause-answers
+returns-in-Ok-clause-answers g c =
+    AnswersReplay-ends c.answer.result c.in-Ok.input.items _ _ _ _ _ _ _ _ c.in-Ok.ensures.whole c.in-Ok.ensures.kept c.answer.ensures.ends

@@ -1,0 +1,42 @@
+use Rattle.std.proofs.Common.{◌≡◌, length, refl, sym, ◌∙◌, subst, arith}
+use Rattle.std.proofs.lemmas.Result.{err_from_is_err_and}
+use Rattle.std.specs.Io.KnownBytes.{Appends}
+use Rattle.replay_script.specs.Events.{action_of, header_of}
+use Rattle.omci_top.proofs.RunLemmas.{RunSoFar, run_starts, run_goes_on, run_breaks_off, run_ends, run_ends_early}
+use Rattle.omci_top.proofs.run.run.Goals as goal
+
+pub loop-place-init : goal.loop-place-init
+loop-place-init g c = (
+  run_starts c.args.script.now (header_of c.header-header.result.now) c.in_ok-world.world c.in_ok-lines.lines.items c.put_start.new.out.items c.software_of.result c.bytes.result.now (g.K.Sink.written c.args.sink.now)
+      c.header-header.ensures.value c.in_ok-world.ensures.first c.in_ok-lines.ensures.items c.bytes.ensures.value c.software_of.ensures.value c.in_ok-put_start.ensures.appended,
+  refl,
+)
+
+pub loop-place-preserved : goal.loop-place-preserved
+loop-place-preserved g c = (
+  run_goes_on c.args.script.now c.loop-place.place (action_of c.event.result.now) c.loop-place.world c.one_event.new.world c.loop-place.lines.items c.one_event.new.lines.items (g.K.Sink.written c.args.sink.now) (g.K.Sink.written c.loop-place.sink) (g.K.Sink.written c.one_event.new.sink)
+      c.loop-place.invariant.0 c.event.ensures.value c.in_ok-one_event.ensures.nodes c.in_ok-one_event.ensures.written,
+  c.in_ok-one_event.ensures.kept ∙ c.loop-place.invariant.1,
+)
+
+pub returns-in_err-one_event-clause-front : goal.returns-in_err-one_event-clause-front
+returns-in_err-one_event-clause-front g c =
+    let p = err_from_is_err_and c.from_residual-in_err-one_event.result c.from_residual-in_err-one_event.ensures.1 in
+    rw p.1 (run_breaks_off c.args.script.now c.loop-place.place (action_of c.event.result.now) c.loop-place.world c.loop-place.lines.items (g.K.Sink.written c.args.sink.now) (g.K.Sink.written c.loop-place.sink) (g.K.Sink.written c.one_event.new.sink)
+    c.loop-place.invariant.0 c.event.ensures.value c.in_err-one_event.ensures.front)
+
+pub returns-in_err-write_all-clause-front : goal.returns-in_err-write_all-clause-front
+returns-in_err-write_all-clause-front g c =
+    let p = err_from_is_err_and c.from_residual-in_err-write_all.result c.from_residual-in_err-write_all.ensures.1 in
+    let all : c.loop-place.place ≡ length c.args.script.now.actions = omega (arith, c.len-place-end.ensures.value) in
+    let broken = c.in_err-write_all.ensures.broken in
+    rw p.1 (run_ends_early c.args.script.now c.loop-place.world c.loop-place.lines.items (g.K.Sink.written c.args.sink.now) (g.K.Sink.written c.loop-place.sink) (g.K.Sink.written c.write_all.new.sink)
+    (subst (λ k. RunSoFar c.args.script.now k c.loop-place.world c.loop-place.lines.items (g.K.Sink.written c.args.sink.now) (g.K.Sink.written c.loop-place.sink)) all c.loop-place.invariant.0)
+    (broken.done, (broken.rest, sym broken.parts ∙ c.deref.ensures.value), broken.added))
+
+pub returns-clause-traced : goal.returns-clause-traced
+returns-clause-traced g c =
+    let all : c.loop-place.place ≡ length c.args.script.now.actions = omega (arith, c.len-place-end.ensures.value) in
+    run_ends c.args.script.now c.loop-place.world c.loop-place.lines.items (g.K.Sink.written c.args.sink.now) (g.K.Sink.written c.loop-place.sink) (g.K.Sink.written c.write_all.new.sink)
+    (subst (λ k. RunSoFar c.args.script.now k c.loop-place.world c.loop-place.lines.items (g.K.Sink.written c.args.sink.now) (g.K.Sink.written c.loop-place.sink)) all c.loop-place.invariant.0)
+    (subst (λ text. Appends (g.K.Sink.written c.loop-place.sink) (g.K.Sink.written c.write_all.new.sink) text) c.deref.ensures.value c.in_ok-write_all.ensures.whole)

@@ -1,0 +1,108 @@
+-- What each answer of the top call says of the source and of the sink.
+use Rattle.std.specs.Prelude.{ℕ, ◌≡◌, ◌⊎◌, List, [], ◌∷◌, codes, Option, Some}
+use Rattle.std.specs.Io.KnownBytes.{Appends}
+use Rattle.omci_core.specs.Causes.{Rose}
+use Rattle.script_spec.specs.Script.{Script}
+use Rattle.script_spec.specs.Grammar.{Writes}
+use Rattle.script_spec.specs.Fault.{fault}
+use Rattle.world_spec.specs.Trace.{trace}
+use Rattle.world_spec.specs.History.{history_of, Once, Answered}
+use Rattle.omci_top.specs.Streams.{ReadsWhole, ReadsPast}
+use Rattle.omci_top.specs.Texts.{input_text, answer_to, IsFrontOf}
+use Rattle.omci_top.specs.declared.status.Status.{Status}
+use Rattle.omci_top.specs.declared.status.Status.TheVariants.{Done, Usage, Input, ReadFault, WriteFault, TooLong, NoMemory}
+use Rattle.omci_top.specs.declared.run.RunFault.{RunFault}
+use Rattle.omci_top.specs.declared.run.RunFault.TheVariants as run_fault
+
+-- the command line of a replay
+abbrev pub replay_words : List (List ℕ)
+replay_words = codes "replay" ∷ []
+
+-- the exit status of the program
+abbrev pub status_number : Status → ℕ
+status_number Done = 0
+status_number Usage = 1
+status_number (Input place reason) = 2
+status_number ReadFault = 3
+status_number WriteFault = 4
+status_number TooLong = 8
+status_number NoMemory = 9
+
+-- a front of what is to be written was written
+abbrev pub WritesFront : List ℕ → Option (List ℕ) → Option (List ℕ) → Type 0
+WritesFront whole before now = (front : List ℕ) × IsFrontOf front whole × Appends before now front
+
+-- why a run ended before its end: want of memory with no fault of the sink, or such a fault
+abbrev pub EndsRun : RunFault → ℕ → ℕ → Type 0
+EndsRun run_fault.NoMemory faults_before faults_now = faults_now ≡ faults_before
+EndsRun run_fault.Write faults_before faults_now = Rose faults_before faults_now
+
+-- What writing a whole text comes to, by the answer of the run: all of it, or a front of it.
+abbrev pub Ran : Status → List ℕ → Option (List ℕ) → Option (List ℕ) → ℕ → ℕ → Type 0
+Ran Done whole before now faults_before faults_now = Appends before now whole × (faults_now ≡ faults_before)
+Ran NoMemory whole before now faults_before faults_now = WritesFront whole before now × (faults_now ≡ faults_before)
+Ran WriteFault whole before now faults_before faults_now = WritesFront whole before now × Rose faults_before faults_now
+Ran _ whole before now faults_before faults_now = ⊥
+
+-- What writing the line of a fault comes to.
+abbrev pub Told : Status → ℕ → ℕ → Option (List ℕ) → Option (List ℕ) → ℕ → ℕ → Type 0
+Told (Input line why) place reason before now faults_before faults_now =
+    (line ≡ place) × (why ≡ reason) × Appends before now (input_text place reason) × (faults_now ≡ faults_before)
+Told NoMemory place reason before now faults_before faults_now =
+    WritesFront (input_text place reason) before now × (faults_now ≡ faults_before)
+Told WriteFault place reason before now faults_before faults_now =
+    WritesFront (input_text place reason) before now × Rose faults_before faults_now
+Told _ place reason before now faults_before faults_now = ⊥
+
+-- What a run on an input comes to at the sink, by its answer. No other answer comes.
+abbrev pub Ends : Status → List ℕ → Option (List ℕ) → Option (List ℕ) → ℕ → ℕ → Type 0
+Ends Done input before now faults_before faults_now =
+    ((script : Script) × Writes script input × Appends before now (trace script)) × (faults_now ≡ faults_before)
+Ends (Input place reason) input before now faults_before faults_now =
+    (fault input ≡ Some (place, reason)) × Appends before now (input_text place reason) × (faults_now ≡ faults_before)
+Ends NoMemory input before now faults_before faults_now =
+    WritesFront (answer_to input) before now × (faults_now ≡ faults_before)
+Ends WriteFault input before now faults_before faults_now =
+    WritesFront (answer_to input) before now × Rose faults_before faults_now
+Ends _ input before now faults_before faults_now = ⊥
+
+-- The source was read to its end, its bytes spell a script, and the script's trace was written. In this script's history no
+-- command is carried out twice, and each reply taken is its command's own.
+pub record Replays (left_before left_now written_before written_now : Option (List ℕ)) : Type 0 where
+  pub input : List ℕ
+  pub script : Script
+  pub read : ReadsWhole 16777216 left_before left_now input
+  pub spelled : Writes script input
+  pub traced : Appends written_before written_now (trace script)
+  pub once : Once (history_of script.header script.actions)
+  pub answered : Answered (history_of script.header script.actions)
+
+-- The source was read to its end, its bytes have this first fault, and the one line that says so was written.
+pub record Refuses (place reason : ℕ) (left_before left_now written_before written_now : Option (List ℕ)) : Type 0 where
+  pub input : List ℕ
+  pub read : ReadsWhole 16777216 left_before left_now input
+  pub faulty : fault input ≡ Some (place, reason)
+  pub told : Appends written_before written_now (input_text place reason)
+
+-- The source was read to its end, and a front was written of what is to be written of its bytes.
+pub record BreaksOffAt (left_before left_now written_before written_now : Option (List ℕ)) : Type 0 where
+  pub input : List ℕ
+  pub read : ReadsWhole 16777216 left_before left_now input
+  pub front : WritesFront (answer_to input) written_before written_now
+
+-- What a replay comes to, by its answer. A command line that is a replay's isn't answered by Usage.
+abbrev pub AnswersReplay : Status → (left_before left_now written_before written_now : Option (List ℕ)) (read_before read_now write_before write_now : ℕ) → Type 0
+AnswersReplay Done left_before left_now written_before written_now read_before read_now write_before write_now =
+    Replays left_before left_now written_before written_now × (read_now ≡ read_before) × (write_now ≡ write_before)
+AnswersReplay Usage left_before left_now written_before written_now read_before read_now write_before write_now = ⊥
+AnswersReplay (Input place reason) left_before left_now written_before written_now read_before read_now write_before write_now =
+    Refuses place reason left_before left_now written_before written_now × (read_now ≡ read_before) × (write_now ≡ write_before)
+AnswersReplay ReadFault left_before left_now written_before written_now read_before read_now write_before write_now =
+    Rose read_before read_now × (write_now ≡ write_before)
+AnswersReplay WriteFault left_before left_now written_before written_now read_before read_now write_before write_now =
+    BreaksOffAt left_before left_now written_before written_now × (read_now ≡ read_before) × Rose write_before write_now
+AnswersReplay TooLong left_before left_now written_before written_now read_before read_now write_before write_now =
+    ReadsPast 16777216 left_before left_now × (read_now ≡ read_before) × (write_now ≡ write_before)
+AnswersReplay NoMemory left_before left_now written_before written_now read_before read_now write_before write_now =
+    (Appends written_before written_now [] ⊎ BreaksOffAt left_before left_now written_before written_now)
+    × (read_now ≡ read_before) × (write_now ≡ write_before)

@@ -1,0 +1,5 @@
+pub mod Loops
+pub mod Numbers
+pub mod Left
+pub mod Faults
+pub mod Public

@@ -1,0 +1,18 @@
+-- What an event and a header say, apart from where their bytes lie in memory.
+use Rattle.script_spec.specs.Script as spec
+use Rattle.replay_script.specs.declared.script.Event.{Event}
+use Rattle.replay_script.specs.declared.script.Event.TheVariants.{Probe, Reset, Get, Create, Set, Delete, Deliver, Flow}
+use Rattle.replay_script.specs.declared.script.Header.{Header}
+
+abbrev pub action_of : Event → spec.Action
+action_of (Probe lane) = spec.Probe lane
+action_of (Reset lane) = spec.Reset lane
+action_of (Get lane entity mask) = spec.Get lane entity mask
+action_of (Create lane entity values) = spec.Create lane entity values
+action_of (Set lane entity mask values) = spec.Set lane entity mask values
+action_of (Delete lane entity) = spec.Delete lane entity
+action_of (Deliver packet) = spec.Deliver packet
+action_of (Flow times) = spec.Flow times
+
+abbrev pub header_of : Header → spec.Header
+header_of header = record { room = header.room; low = header.low; high = header.high; factory = header.factory }

@@ -1,0 +1,37 @@
+ghost use Rattle.std.specs.Prelude.{◌≡◌, ◌==◌, ◌<◌, ◌∷◌, length};
+ghost use Rattle.std.specs.List.{position};
+ghost use Rattle.script_spec.specs.Text.{lines_of, is_passed_over};
+ghost use Rattle.replay_script.specs.Answers.{IsTextOf};
+
+/// The first line's text, and the bytes after the line's end.
+pub(crate) fn next_line(bytes: &[u8]) -> (&[u8], &[u8])
+    requires { 0 < length bytes.now }
+    ensures lines { lines_of bytes.now ≡ result.0.now ∷ lines_of result.1.now }
+    ensures shorter { length result.1.now < length bytes.now }
+{
+    match place_of(bytes, b'\n') {
+        None => (bytes, &[]),
+        Some(end) => (without_return(&bytes[..end]), &bytes[end + 1..]),
+    }
+}
+
+/// A line's text without a carriage return at its end.
+fn without_return(line: &[u8]) -> &[u8]
+    ensures text { IsTextOf line.now result.now }
+{
+    line.strip_suffix(b"\r").unwrap_or(line)
+}
+
+/// The place of the first byte of this value.
+pub(crate) fn place_of(bytes: &[u8], wanted: u8) -> Option<usize>
+    ensures value { result ≡ position (λ b. b == wanted) bytes.now }
+{
+    bytes.iter().position(|byte| *byte == wanted)
+}
+
+/// Whether a line is empty or begins with `#`.
+pub(crate) fn is_passed_over(text: &[u8]) -> bool
+    ensures value { result ≡ is_passed_over text.now }
+{
+    matches!(text, [] | [b'#', ..])
+}

@@ -1,0 +1,146 @@
+ghost use Rattle.std.specs.Prelude.{◌≡◌, ◌+◌, ◌≤◌, ◌<◌, ◌^◌, ◌++◌, map, length, Option, Ok, MatchResult, IfOk, IfErr};
+ghost use Rattle.std.specs.Option.{option_to_list};
+ghost use Rattle.script_spec.specs.Script.{Action, IsScript};
+ghost use Rattle.script_spec.specs.Text.{lines_of, words_of};
+ghost use Rattle.script_spec.specs.Reading.{line_action, header_at, as_header, on_line, event_at, events_reading, script_reading, reading};
+ghost use Rattle.script_spec.specs.Grammar.{Writes};
+ghost use Rattle.replay_script.specs.Answers.{Gives, GivesScript, FailsScript, ReadsOnly, IsFaultOf, RefusesOnly};
+ghost use Rattle.replay_script.specs.Events.{action_of, header_of};
+
+use crate::events::event_of;
+use crate::lines::{is_passed_over, next_line};
+use crate::refusal::{LineRefusal, ScriptRefusal};
+use crate::script::{Event, Header, Script};
+use crate::words::LineWords;
+use std::alloc::Global;
+
+/// The reason of each fault of a header.
+const HEADER_REASON: u8 = 4;
+/// The most bytes that an image slot has room for.
+const MAX_ROOM: u64 = 1_048_576;
+/// The last number of a lane.
+const LAST_NUMBER: u64 = 32_767;
+
+/// Reads a script, all of the bytes, in one pass.
+///
+/// `Fault` has the first fault's line, from 1, and its reason; `NoMemory` where there is no room for what the events
+/// keep.
+pub fn read(alloc: Global, bytes: &[u8]) -> Result<Script, ScriptRefusal>
+    // What is read is written so.
+    ensures written { IfOk result (λ script. Writes script bytes.now) }
+    ensures ranges { IfOk result IsScript }
+
+    // What is written so is read, unless memory runs out.
+    ensures only { ReadsOnly result bytes.now }
+
+    // What is refused has this first fault, and what has a fault is refused for it, unless memory runs out.
+    ensures refused { IfErr result (λ refusal. IsFaultOf refusal bytes.now) }
+    ensures faulty { RefusesOnly result bytes.now }
+{
+    script_of(alloc, bytes)
+}
+
+/// The same, in the words of reading from left to right.
+#[tactic(auto, unfolding(script_spec::specs::Reading::reading))]
+fn script_of(alloc: Global, bytes: &[u8]) -> Result<Script, ScriptRefusal>
+    ensures exact { GivesScript (λ script. script) result (reading bytes.now) }
+{
+    let mut rest = bytes;
+    let mut line = 1;
+    while !rest.is_empty() {
+        let (text, after) = next_line(rest);
+        if !is_passed_over(text) {
+            let header = header_on(alloc, line, text)?;
+            let events = events_of(alloc, line + 1, after)?;
+            return Ok(Script::new(header, events));
+        }
+        rest = after;
+        line += 1;
+    }
+    Err(ScriptRefusal::Fault {
+        line,
+        reason: HEADER_REASON,
+    })
+}
+
+/// The header that the line writes.
+fn header_on(alloc: Global, line: u64, text: &[u8]) -> Result<Header, ScriptRefusal>
+    ensures value { GivesScript header_of result (as_header line (header_at (words_of text.now))) }
+{
+    match header_of(alloc, LineWords::new(text)) {
+        Ok(header) => Ok(header),
+        Err(LineRefusal::Reason(_)) => Err(ScriptRefusal::Fault {
+            line,
+            reason: HEADER_REASON,
+        }),
+        Err(LineRefusal::NoMemory) => Err(ScriptRefusal::NoMemory),
+    }
+}
+
+/// The header of these words.
+#[tactic(auto, unfolding(script_spec::specs::Reading::header_at))]
+fn header_of(alloc: Global, mut words: LineWords<'_>) -> Result<Header, LineRefusal>
+    ensures value { Gives header_of result (header_at words.entry) }
+{
+    words.expect(6)?;
+    words.literal(b"omci")?;
+    words.literal(b"1")?;
+    let room = words.number(1, MAX_ROOM)? as u32;
+    let low = words.number(1, LAST_NUMBER)? as u16;
+    let high = words.number(1, LAST_NUMBER)? as u16;
+    let factory = words.bytes(alloc, 1, room as usize)?;
+    Ok(Header {
+        room,
+        low,
+        high,
+        factory,
+    })
+}
+
+/// The events of lines, the first of which has the number `first`.
+fn events_of(alloc: Global, first: u64, bytes: &[u8]) -> Result<Vec<Event>, ScriptRefusal>
+    requires { first + length bytes.now < 2 ^ 64 }
+    ensures value { GivesScript (λ events. map action_of events.items) result (events_reading first (lines_of bytes.now)) }
+{
+    let mut events = Vec::new(alloc);
+    let mut rest = bytes;
+    let mut line = first;
+    while !rest.is_empty() {
+        let (text, after) = next_line(rest);
+        read_line(alloc, line, text, &mut events)?;
+        rest = after;
+        line += 1;
+    }
+    Ok(events)
+}
+
+/// Adds the event that the line asks for; a line that is passed over asks for none.
+fn read_line(
+    alloc: Global,
+    line: u64,
+    text: &[u8],
+    events: &mut Vec<Event>,
+) -> Result<(), ScriptRefusal>
+    ensures value { MatchResult result
+        (λ _. (action : Option Action) × (on_line line (event_at text.now) ≡ Ok action)
+        × (map action_of events.new.items ≡ map action_of events.old.items ++ option_to_list action))
+        (λ e. FailsScript e (on_line line (event_at text.now))) }
+{
+    if is_passed_over(text) {
+        return Ok(());
+    }
+    let event = event_on(alloc, line, text)?;
+    events.push(event)?;
+    Ok(())
+}
+
+/// The event that the line asks for.
+fn event_on(alloc: Global, line: u64, text: &[u8]) -> Result<Event, ScriptRefusal>
+    ensures value { GivesScript action_of result (on_line line (line_action (words_of text.now))) }
+{
+    match event_of(alloc, LineWords::new(text)) {
+        Ok(event) => Ok(event),
+        Err(LineRefusal::Reason(reason)) => Err(ScriptRefusal::Fault { line, reason }),
+        Err(LineRefusal::NoMemory) => Err(ScriptRefusal::NoMemory),
+    }
+}

@@ -1,0 +1,42 @@
+ghost use Rattle.std.specs.Prelude.{◌≡◌};
+ghost use Rattle.replay_script.specs.declared.refusal.ScriptRefusal.TheVariants.{NoMemory};
+
+use std::alloc::AllocFailed;
+use thiserror::Error;
+
+/// Why bytes were not read as a script.
+#[derive(Clone, Copy, Debug, PartialEq, Eq, Error)]
+pub enum ScriptRefusal {
+    /// The first fault: the line's number, from 1, and the reason. 1 is an unknown word, a missing word or one too
+    /// many; 2 a number that is malformed or out of range; 3 hex that is malformed or of a length that isn't
+    /// allowed; 4 a header that is missing or has any fault.
+    #[error("line {line}: reason {reason}")]
+    Fault { line: u64, reason: u8 },
+    /// There was no memory for what the script says.
+    #[error("out of memory")]
+    NoMemory,
+}
+
+impl<T: Drop> From<AllocFailed<T>> for ScriptRefusal {
+    ghost from_gives = { λ _ e. e ≡ NoMemory };
+
+    fn from(_error: AllocFailed<T>) -> ScriptRefusal {
+        ScriptRefusal::NoMemory
+    }
+}
+
+/// Why a line was not read: the reason of its fault, or want of memory.
+#[derive(Clone, Copy, Debug, PartialEq, Eq)]
+pub(crate) enum LineRefusal {
+    Reason(u8),
+    NoMemory,
+}
+
+impl LineRefusal {
+    /// A word that is unknown, missing or one too many.
+    pub(crate) const WORD: LineRefusal = LineRefusal::Reason(1);
+    /// A number that is malformed or out of range.
+    pub(crate) const NUMBER: LineRefusal = LineRefusal::Reason(2);
+    /// Hex that is malformed or of a length that isn't allowed.
+    pub(crate) const HEX: LineRefusal = LineRefusal::Reason(3);
+}

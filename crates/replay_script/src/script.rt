@@ -1,0 +1,128 @@
+ghost use Rattle.std.specs.Prelude.{◌≡◌, ◌==◌, ◌<◌, Some, length, slice_get};
+ghost use Rattle.std.specs.List.{All};
+ghost use Rattle.script_spec.specs.Script.{IsHeader, IsAction};
+ghost use Rattle.replay_script.specs.Events.{action_of, header_of};
+
+use omci_core::{Bytes, EntityId, Priority};
+use std::marker::Model;
+
+/// What a script begins with.
+#[derive(Debug, PartialEq, Eq, Drop)]
+pub struct Header {
+    /// The room of an image slot, 1 to 1,048,576 bytes.
+    pub room: u32,
+    /// The first number of the low lane, 1 to 32,767.
+    pub low: u16,
+    /// The first number of the high lane, 1 to 32,767.
+    pub high: u16,
+    /// The software image that the unit leaves the factory with, 1 to `room` bytes.
+    pub factory: Bytes,
+}
+
+/// What a line of a script asks for. Bytes are kept as they were written; they are filled when the event is run.
+#[derive(Debug, PartialEq, Eq, Drop)]
+pub enum Event {
+    /// The manager asks for the unit's MIB data sync, to see that the lane is alive.
+    Probe {
+        lane: Priority,
+    },
+    /// The manager resets the MIB (ITU-T G.988, MIB reset).
+    Reset {
+        lane: Priority,
+    },
+    /// The manager gets the attributes of the mask.
+    Get {
+        lane: Priority,
+        entity: EntityId,
+        mask: u16,
+    },
+    /// The manager creates an instance with at most 32 bytes of values.
+    Create {
+        lane: Priority,
+        entity: EntityId,
+        values: Bytes,
+    },
+    /// The manager sets the attributes of the mask to at most 30 bytes of values.
+    Set {
+        lane: Priority,
+        entity: EntityId,
+        mask: u16,
+        values: Bytes,
+    },
+    /// The manager deletes an instance.
+    Delete {
+        lane: Priority,
+        entity: EntityId,
+    },
+    /// The link delivers the packet of this number, counted from 0.
+    Deliver {
+        packet: u64,
+    },
+    /// The link delivers the oldest fresh packet, at most so many times, 1 to 65,536.
+    Flow {
+        times: u32,
+    },
+}
+
+/// A script: a header, and events. Contracts see what it says, and each of its numbers and bytes is in its range.
+#[derive(Debug, Drop)]
+pub struct Script {
+    header: Header,
+    events: Vec<Event>,
+}
+
+impl Model for Script {
+    ghost use Rattle.std.specs.Prelude.{map};
+    ghost use Rattle.script_spec.specs.Script.{Script as Value_of_script, IsScript};
+    ghost use Rattle.replay_script.specs.Events.{action_of, header_of};
+
+    ghost Value = { Value_of_script };
+
+    ghost view = { λ s. record { header = header_of s.header; actions = map action_of s.events.items } };
+
+    ghost invariant = { λ s. IsScript (record { header = header_of s.header; actions = map action_of s.events.items }) };
+}
+
+impl Script {
+    ghost use Rattle.std.specs.Prelude.{map};
+
+    /// A script of this header and these events.
+    pub(crate) fn new(header: Header, events: Vec<Event>) -> Script
+        requires header { IsHeader (header_of header) }
+        requires events { All IsAction (map action_of events.items) }
+        ensures value { result ≡ record { header = header_of header; actions = map action_of events.items } }
+    {
+        Script { header, events }
+    }
+
+    /// What the script begins with.
+    pub fn header(&self) -> &Header
+        ensures value { header_of result.now ≡ self.now.header }
+        ensures ranges { IsHeader self.now.header }
+    {
+        &self.header
+    }
+
+    /// How many events there are.
+    pub fn len(&self) -> usize
+        ensures value { result ≡ length self.now.actions }
+    {
+        self.events.len()
+    }
+
+    /// Whether there is no event.
+    pub fn is_empty(&self) -> bool
+        ensures value { result ≡ (length self.now.actions == 0) }
+    {
+        self.events.is_empty()
+    }
+
+    /// The event at this place, counted from 0.
+    pub fn event(&self, place: usize) -> &Event
+        requires { place < length self.now.actions }
+        ensures value { slice_get self.now.actions place ≡ Some (action_of result.now) }
+        ensures ranges { IsAction (action_of result.now) }
+    {
+        &self.events[place]
+    }
+}

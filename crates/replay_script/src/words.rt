@@ -1,0 +1,276 @@
+ghost use Rattle.std.specs.Prelude.{◌≡◌, ◌==◌, ◌≤◌, ◌∷◌, if◌then◌else◌, IfOk, length, true, Some, None};
+ghost use Rattle.std.specs.List.{AllPass, list_all, count_by};
+ghost use Rattle.std.specs.Char.{is_ascii_digit};
+ghost use Rattle.script_spec.specs.Text.{words_of, decimal_value, is_numeral, hex_bytes, mask_of, keyword_of};
+ghost use Rattle.script_spec.specs.Reading.{word_at, counted, literal_at, lane_at, number_at, mask_at, bytes_at, entity_at, keyword_at, bytes_of, or_reason};
+ghost use Rattle.std.specs.Option.{option_copied};
+ghost use Rattle.replay_script.specs.Answers.{Gives, words_left};
+
+use crate::lines::place_of;
+use crate::refusal::LineRefusal;
+use omci_core::{Bytes, EntityId, Priority};
+use script_spec::Keyword;
+use std::alloc::Global;
+use std::marker::Model;
+
+/// A number has at most so many digits.
+const MAX_DIGITS: usize = 18;
+/// The largest class, and the largest instance.
+const MAX_ID: u64 = 65_535;
+
+/// The words of a line that are still to be read. Words are parted by single spaces.
+#[derive(Drop)]
+pub(crate) struct LineWords<'a> {
+    rest: Option<&'a [u8]>,
+}
+
+impl<'a> Model for LineWords<'a> {
+    ghost use Rattle.std.specs.Prelude.{ℕ, List};
+    ghost use Rattle.std.specs.Option.{option_copied};
+    ghost use Rattle.replay_script.specs.Answers.{words_left};
+
+    ghost Value = { List (List ℕ) };
+
+    ghost view = { λ w. words_left (option_copied w.rest) };
+}
+
+impl<'a> LineWords<'a> {
+    /// All words of a line.
+    pub(crate) fn new(line: &'a [u8]) -> LineWords<'a>
+        ensures value { result ≡ words_of line.now }
+    {
+        LineWords { rest: Some(line) }
+    }
+
+    /// How many words are left.
+    pub(crate) fn count(&self) -> usize
+        ensures value { result ≡ length self.now }
+    {
+        match self.rest {
+            None => 0,
+            Some(text) => word_count(text),
+        }
+    }
+
+    /// Sees that so many words are left.
+    pub(crate) fn expect(&self, count: usize) -> Result<(), LineRefusal>
+        ensures value { Gives (λ _. self.now) result (counted count self.now) }
+    {
+        if self.count() == count {
+            Ok(())
+        } else {
+            Err(LineRefusal::WORD)
+        }
+    }
+
+    /// The next word.
+    fn word(&mut self) -> Result<&'a [u8], LineRefusal>
+        ensures value { Gives (λ word. (word.now, self.new)) result (word_at self.old) }
+    {
+        match self.rest {
+            None => Err(LineRefusal::WORD),
+            Some(text) => {
+                let (word, rest) = first_word(text);
+                self.rest = rest;
+                Ok(word)
+            }
+        }
+    }
+
+    /// A word that has to be this text.
+    #[tactic(auto, unfolding(script_spec::specs::Reading::literal_at, script_spec::specs::Reading::word_at))]
+    pub(crate) fn literal(&mut self, text: &[u8]) -> Result<(), LineRefusal>
+        ensures value { Gives (λ _. self.new) result (literal_at text.now self.old) }
+    {
+        let word = self.word()?;
+        if word == text {
+            Ok(())
+        } else {
+            Err(LineRefusal::WORD)
+        }
+    }
+
+    /// The keyword of an event's line.
+    #[tactic(auto, unfolding(script_spec::specs::Reading::keyword_at))]
+    pub(crate) fn keyword(&mut self) -> Result<Keyword, LineRefusal>
+        ensures value { Gives (λ keyword. (keyword, self.new)) result (keyword_at self.old) }
+    {
+        let word = self.word()?;
+        keyword_of(word).ok_or(LineRefusal::WORD)
+    }
+
+    /// The name of a lane. Scripts name the low lane alone.
+    #[tactic(auto, unfolding(script_spec::specs::Reading::lane_at))]
+    pub(crate) fn lane(&mut self) -> Result<Priority, LineRefusal>
+        ensures value { Gives (λ lane. (lane, self.new)) result (lane_at self.old) }
+    {
+        let word = self.word()?;
+        match word {
+            b"low" => Ok(Priority::Low),
+            _ => Err(LineRefusal::WORD),
+        }
+    }
+
+    /// A decimal number within its bounds.
+    #[tactic(auto, unfolding(script_spec::specs::Reading::number_at))]
+    pub(crate) fn number(&mut self, lowest: u64, highest: u64) -> Result<u64, LineRefusal>
+        ensures value { Gives (λ number. (number, self.new)) result (number_at lowest highest self.old) }
+        ensures low { IfOk result (λ number. lowest ≤ number) }
+        ensures high { IfOk result (λ number. number ≤ highest) }
+    {
+        let word = self.word()?;
+        match numeral(word) {
+            Some(number) if number >= lowest && number <= highest => Ok(number),
+            _ => Err(LineRefusal::NUMBER),
+        }
+    }
+
+    /// A class and an instance.
+    #[tactic(auto, unfolding(script_spec::specs::Reading::entity_at))]
+    pub(crate) fn entity(&mut self) -> Result<EntityId, LineRefusal>
+        ensures value { Gives (λ entity. (entity, self.new)) result (entity_at self.old) }
+    {
+        let class = self.number(0, MAX_ID)? as u16;
+        let instance = self.number(0, MAX_ID)? as u16;
+        Ok(EntityId { class, instance })
+    }
+
+    /// A mask of exactly four hex digits.
+    #[tactic(auto, unfolding(script_spec::specs::Reading::mask_at))]
+    pub(crate) fn mask(&mut self) -> Result<u16, LineRefusal>
+        ensures value { Gives (λ mask. (mask, self.new)) result (mask_at self.old) }
+    {
+        let word = self.word()?;
+        mask_of(word).ok_or(LineRefusal::HEX)
+    }
+
+    /// Bytes in hex, of a number within its bounds.
+    #[tactic(auto, unfolding(script_spec::specs::Reading::bytes_at))]
+    pub(crate) fn bytes(
+        &mut self,
+        alloc: Global,
+        fewest: usize,
+        most: usize,
+    ) -> Result<Bytes, LineRefusal>
+        ensures value { Gives (λ bytes. (bytes, self.new)) result (bytes_at fewest most self.old) }
+    {
+        let word = self.word()?;
+        bytes_of(alloc, fewest, most, word)
+    }
+}
+
+/// How many words a text has.
+fn word_count(text: &[u8]) -> usize
+    ensures value { result ≡ length (words_of text.now) }
+{
+    spaces(text) + 1
+}
+
+/// How many spaces stand in a text.
+fn spaces(text: &[u8]) -> usize
+    ensures value { result ≡ count_by (λ b. b == 32) text.now }
+    ensures bound { result ≤ length text.now }
+{
+    text.iter().filter(|byte| **byte == b' ').count()
+}
+
+/// A text's first word, and the text after the space that follows it, if one does.
+fn first_word(text: &[u8]) -> (&[u8], Option<&[u8]>)
+    ensures value { words_of text.now ≡ result.0.now ∷ words_left (option_copied result.1) }
+{
+    match place_of(text, b' ') {
+        None => (text, None),
+        Some(end) => (&text[..end], Some(&text[end + 1..])),
+    }
+}
+
+/// The keyword that a word is.
+#[tactic(auto, unfolding(script_spec::specs::Text::keyword_of))]
+fn keyword_of(word: &[u8]) -> Option<Keyword>
+    ensures value { result ≡ keyword_of word.now }
+{
+    match word {
+        b"probe" => Some(Keyword::Probe),
+        b"get" => Some(Keyword::Get),
+        b"create" => Some(Keyword::Create),
+        b"set" => Some(Keyword::Set),
+        b"delete" => Some(Keyword::Delete),
+        b"reset" => Some(Keyword::Reset),
+        b"deliver" => Some(Keyword::Deliver),
+        b"flow" => Some(Keyword::Flow),
+        _ => None,
+    }
+}
+
+/// The number of 1 to 18 decimal digits.
+fn numeral(word: &[u8]) -> Option<u64>
+    ensures value { result ≡ (if is_numeral word.now then Some (decimal_value word.now) else None) }
+{
+    if word.is_empty() || word.len() > MAX_DIGITS || !are_digits(word) {
+        return None;
+    }
+    Some(decimal(word))
+}
+
+/// Whether each byte is a decimal digit.
+fn are_digits(word: &[u8]) -> bool
+    ensures value { result ≡ list_all is_ascii_digit word.now }
+    ensures digits { result ≡ true → AllPass is_ascii_digit word.now }
+{
+    word.iter().all(u8::is_ascii_digit)
+}
+
+/// The number of decimal digits.
+#[tactic(auto, unfolding(script_spec::specs::Text::decimal_value))]
+fn decimal(digits: &[u8]) -> u64
+    requires few { length digits.now ≤ 18 }
+    requires digits { AllPass is_ascii_digit digits.now }
+    ensures value { result ≡ decimal_value digits.now }
+{
+    let mut value = 0;
+    for digit in digits {
+        value = value * 10 + u64::from(*digit - b'0');
+    }
+    value
+}
+
+/// The mask that exactly four hex digits stand for.
+#[tactic(auto, unfolding(script_spec::specs::Text::mask_of))]
+fn mask_of(word: &[u8]) -> Option<u16>
+    ensures value { result ≡ mask_of word.now }
+{
+    let mut mask = [0; 2];
+    match hex::decode_to_slice(word, &mut mask) {
+        Ok(()) => Some(u16::from_be_bytes(mask)),
+        Err(_) => None,
+    }
+}
+
+/// Bytes in hex, of a number within its bounds.
+fn bytes_of(alloc: Global, fewest: usize, most: usize, word: &[u8]) -> Result<Bytes, LineRefusal>
+    ensures value { Gives (λ bytes. bytes) result (or_reason 3 (bytes_of fewest most word.now)) }
+{
+    let bytes = hex_bytes(alloc, word)?;
+    if bytes.len() < fewest || bytes.len() > most {
+        return Err(LineRefusal::HEX);
+    }
+    Ok(bytes)
+}
+
+/// The bytes that hex digits stand for, two digits for each byte; `-` stands for no byte.
+#[tactic(auto, unfolding(script_spec::specs::Text::hex_bytes))]
+fn hex_bytes(alloc: Global, word: &[u8]) -> Result<Bytes, LineRefusal>
+    ensures value { Gives (λ bytes. bytes) result (or_reason 3 (hex_bytes word.now)) }
+{
+    if word.is_empty() {
+        return Err(LineRefusal::HEX);
+    }
+    if word == b"-".as_slice() {
+        return Ok(Bytes::from_vec(Vec::new(alloc)));
+    }
+    match hex::decode(alloc, word) {
+        Ok(bytes) => Ok(Bytes::from_vec(bytes)),
+        Err(hex::FromHexError::OutOfMemory) => Err(LineRefusal::NoMemory),
+        Err(_) => Err(LineRefusal::HEX),
+    }
+}

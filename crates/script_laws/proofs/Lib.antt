@@ -1,0 +1,11 @@
+pub mod Rows
+pub mod Lines
+pub mod Words
+pub mod Places
+pub mod Parts
+pub mod Actions
+pub mod Headers
+pub mod Ranges
+pub mod Texts
+pub mod Scripts
+pub mod FaultLaws

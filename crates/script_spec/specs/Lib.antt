@@ -1,0 +1,5 @@
+pub mod Script
+pub mod Text
+pub mod Grammar
+pub mod Fault
+pub mod Reading

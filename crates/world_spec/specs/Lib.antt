@@ -1,0 +1,4 @@
+pub mod Link
+pub mod Nodes
+pub mod Trace
+pub mod History
