@@ -1,0 +1,2 @@
+//! The link between the two ends.
+#![tactic(auto)]
