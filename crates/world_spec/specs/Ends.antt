@@ -1,6 +1,6 @@
 -- The two ends, each on or off, and what happens to them: at a submission, when a packet comes, with each second, and when the
 -- power goes or comes back. None of this knows the link.
-use Rattle.std.specs.Prelude.{ℕ, ◌+◌, ◌-◌, Bool, true, false, List, [], ◌∷◌, ◌++◌, length, map, take, replicate, Option, Some, None, Result, Ok, Err}
+use Rattle.std.specs.Prelude.{ℕ, ◌+◌, ◌-◌, Bool, true, false, List, [], ◌∷◌, ◌++◌, length, map, take, replicate, Option, Some, None}
 use Rattle.std.specs.List.{flat_map}
 use Rattle.omci_types.specs.declared.Priority.{Priority}
 use Rattle.omci_types.specs.declared.SlotView.{SlotView}
@@ -14,7 +14,7 @@ use Rattle.unit_spec.specs.declared.Did.{Did}
 use Rattle.unit_spec.specs.declared.Did.TheVariants as did
 use Rattle.unit_spec.specs.Onu.{Onu, Reception, onu_started, onu_received}
 use Rattle.manager_spec.specs.declared.Refusal.{Refusal}
-use Rattle.manager_spec.specs.Manager.{Manager, Outcome, Sending, manager_started, after_packet, after_tick}
+use Rattle.manager_spec.specs.Manager.{Manager, Outcome, Submission, Sending, manager_started, after_packet, after_tick}
 use Rattle.world_spec.specs.Happenings.{Happening, OfLane, OfArrival, UnitStarted, ManagerStarted, PacketCame, PacketSent, UnitCarried, UnitKept, UnitDropped, CommandDrawn, Reported, Refused, NotEnabled}
 
 -- how many lines of the script are done, how many lives the unit has had, the software in its slots, and the ends that are on
@@ -88,12 +88,15 @@ manager_did o e =
       happenings = map Reported o.manager.reports ++ flat_map sends o.sendings;
     }
 
-abbrev pub submitted : Result Outcome Refusal → Ends → Step
-submitted (Ok o) e = manager_did o e
-submitted (Err refusal) e = record { ends = e; happenings = Refused refusal ∷ [] }
+abbrev pub submitted_as : Option Refusal → Outcome → Ends → Step
+submitted_as None o e = manager_did o e
+submitted_as (Some refusal) o e = record { ends = e; happenings = Refused refusal ∷ [] }
+
+abbrev pub submitted : Submission → Ends → Step
+submitted s e = submitted_as s.refusal s.outcome e
 
 -- a submission to a manager that is on
-abbrev pub submission : (Manager → Result Outcome Refusal) → Option Manager → Ends → Step
+abbrev pub submission : (Manager → Submission) → Option Manager → Ends → Step
 submission call None e = not_enabled e
 submission call (Some m) e = submitted (call m) e
 
