@@ -364,6 +364,6 @@ fn parts_of_texts_are_appended(rt: HostRuntime) -> Result<(), Fail> {
     out.clear();
     push_hex(&mut out, &long)?;
     assert_eq!(rt; out.len(), 140);
-    assert!(rt; out.chunks(2).all(|two| two == b"a5"));
+    assert!(rt; out.chunks(2).all(|two| two == b"a5".as_slice()));
     Ok(())
 }
