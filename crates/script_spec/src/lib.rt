@@ -1,16 +1,44 @@
-//! What scripts are: their lines, the events that the lines ask for, the grammar of their bytes, and the first
-//! fault of bytes that are no script. The crate has definitions and one plain type.
+//! What scripts are: one table of their lines, what each line asks for, the grammar of their bytes, and the first
+//! fault of bytes that are no script. The crate has definitions, one plain type and the limits.
 #![tactic(auto)]
 
-/// The first word of a script's line, which says what the line asks for.
+/// The kinds of a script's lines, one for each row of the table.
 #[derive(Clone, Copy, Debug, PartialEq, Eq)]
-pub enum Keyword {
+pub enum Line {
     Probe,
+    Reset,
     Get,
     Create,
     Set,
     Delete,
-    Reset,
     Deliver,
     Flow,
+    NoiseUnit,
+    NoiseOlt,
+    Tick,
+    CutUnit,
+    CutOlt,
+    StartUnit,
+    StartOlt,
 }
+
+/// The most digits of a number.
+pub const MAX_DIGITS: usize = 18;
+/// The largest number of `MAX_DIGITS` digits: the last packet that a line may name.
+pub const LAST_PACKET: u64 = 999_999_999_999_999_999;
+/// The largest class, and the largest instance.
+pub const MAX_ID: u64 = 65_535;
+/// The largest mask.
+pub const MAX_MASK: u64 = 65_535;
+/// The most bytes of values that a create has.
+pub const MAX_CREATE: usize = 32;
+/// The most bytes of values that a set has.
+pub const MAX_SET: usize = 30;
+/// The most packets that one line lets flow.
+pub const MAX_FLOW: u64 = 65_536;
+/// The most bytes of a line's noise.
+pub const MAX_NOISE: usize = 4_096;
+/// The last number of a lane.
+pub const LAST_NUMBER: u64 = 32_767;
+/// The most bytes that an image slot has room for.
+pub const MAX_ROOM: u64 = 1_048_576;
