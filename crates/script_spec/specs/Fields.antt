@@ -1,7 +1,8 @@
 -- The fields of a line: the forms that a word may have, and what it then says.
-use Rattle.std.specs.Prelude.{◌≡◌, ◌≢◌, ◌≤◌, ◌<◌, ℕ, List, [], ◌∷◌, length, None}
+use Rattle.std.specs.Prelude.{◌≢◌, ◌≤◌, ◌<◌, ℕ, List, [], ◌∷◌, length, None}
 use Rattle.std.specs.List.{All}
 use Rattle.omci_types.specs.declared.Priority.{Priority}
+use Rattle.omci_types.specs.declared.Priority.TheVariants.{Low}
 use Rattle.frame_spec.specs.Baseline.{fault_of}
 use Rattle.script_spec.specs.declared.TheConstants.{MAX_MASK}
 
@@ -11,17 +12,29 @@ pub data Value : Type 0 where
   Number : ℕ → Value
   Bytes : List ℕ → Value
 
+abbrev pub lane_in : Value → Priority
+lane_in (Lane lane) = lane
+lane_in _ = Low
+
+abbrev pub number_in : Value → ℕ
+number_in (Number n) = n
+number_in _ = 0
+
+abbrev pub bytes_in : Value → List ℕ
+bytes_in (Bytes bytes) = bytes
+bytes_in _ = []
+
 -- The form of a word. A number and bytes come with the least and the most that their place allows.
 pub data Form : Type 0 where
   -- `low` or `high`
   LaneName : Form
-  -- decimal digits
+  -- decimal digits of a number
   Decimal : ℕ → ℕ → Form
   -- four hex digits
   MaskDigits : Form
   -- two hex digits for each byte
   HexBytes : ℕ → ℕ → Form
-  -- the same, at most so many, of bytes that don't decode as a frame
+  -- the same, of at most so many bytes, which don't decode as a frame
   NoiseBytes : ℕ → Form
 
 -- each element is a byte

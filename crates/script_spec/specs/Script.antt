@@ -1,13 +1,12 @@
 -- What a script says: a header, and what each line after it asks for, by one table of the kinds of lines.
-use Rattle.std.specs.Prelude.{◌≡◌, ◌≤◌, ◌<◌, ℕ, zero, suc, List, [], ◌∷◌, length, codes}
+use Rattle.std.specs.Prelude.{◌≤◌, ℕ, zero, suc, List, [], ◌∷◌, length, codes}
 use Rattle.std.specs.List.{All}
 use Rattle.omci_types.specs.declared.Priority.{Priority}
-use Rattle.omci_types.specs.declared.Priority.TheVariants.{Low}
 use Rattle.omci_types.specs.declared.EntityId.{EntityId}
 use Rattle.script_spec.specs.declared.TheConstants.{LAST_PACKET, MAX_ID, MAX_CREATE, MAX_SET, MAX_FLOW, MAX_NOISE, LAST_NUMBER, MAX_ROOM}
 use Rattle.script_spec.specs.declared.Line.{Line}
 use Rattle.script_spec.specs.declared.Line.TheVariants as lines
-use Rattle.script_spec.specs.Fields.{Value, Lane, Number, Bytes, Form, LaneName, Decimal, MaskDigits, HexBytes, NoiseBytes, AreBytes, AllFit}
+use Rattle.script_spec.specs.Fields.{Value, Lane, Number, Bytes, lane_in, number_in, bytes_in, Form, LaneName, Decimal, MaskDigits, HexBytes, NoiseBytes, AreBytes, AllFit}
 
 -- What one line of a script asks for. Bytes are kept as they were written, not filled.
 pub data Action : Type 0 where
@@ -100,23 +99,18 @@ said CutOlt = says lines.CutOlt []
 said StartUnit = says lines.StartUnit []
 said (StartOlt low high) = says lines.StartOlt (Number low ∷ Number high ∷ [])
 
-abbrev pub lane_in : Value → Priority
-lane_in (Lane lane) = lane
-lane_in _ = Low
+abbrev pub first_value : List Value → Value
+first_value [] = Bytes []
+first_value (value ∷ values) = value
 
-abbrev pub number_in : Value → ℕ
-number_in (Number n) = n
-number_in _ = 0
+abbrev pub later_values : List Value → List Value
+later_values [] = []
+later_values (value ∷ values) = values
 
-abbrev pub bytes_in : Value → List ℕ
-bytes_in (Bytes bytes) = bytes
-bytes_in _ = []
-
--- the value at a place
+-- the value at a place, from 0
 abbrev pub value_at : ℕ → List Value → Value
-value_at place [] = Bytes []
-value_at zero (value ∷ values) = value
-value_at (suc place) (value ∷ values) = value_at place values
+value_at zero values = first_value values
+value_at (suc place) values = value_at place (later_values values)
 
 abbrev pub lane_at : ℕ → List Value → Priority
 lane_at place values = lane_in (value_at place values)
@@ -162,6 +156,27 @@ pub record Header : Type 0 where
   pub low : ℕ
   pub high : ℕ
   pub factory : List ℕ
+
+-- the words that a header begins with
+abbrev pub header_name : List (List ℕ)
+header_name = codes "omci" ∷ codes "1" ∷ []
+
+abbrev pub room_field : Form
+room_field = Decimal 1 MAX_ROOM
+
+-- the fields after the room; the image has to fit it
+abbrev pub fields_after_room : ℕ → List Form
+fields_after_room room = lane_number ∷ lane_number ∷ HexBytes 1 room ∷ []
+
+-- the header's row, where the image slots have this room
+abbrev pub header_row : ℕ → Row
+header_row room = line header_name (room_field ∷ fields_after_room room)
+
+abbrev pub header_values : Header → List Value
+header_values header = Number header.room ∷ Number header.low ∷ Number header.high ∷ Bytes header.factory ∷ []
+
+abbrev pub header_with : List Value → Header
+header_with v = record { room = number_at 0 v; low = number_at 1 v; high = number_at 2 v; factory = bytes_at 3 v }
 
 pub record Script : Type 0 where
   pub header : Header

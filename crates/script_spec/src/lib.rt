@@ -42,3 +42,14 @@ pub const MAX_NOISE: usize = 4_096;
 pub const LAST_NUMBER: u64 = 32_767;
 /// The most bytes that an image slot has room for.
 pub const MAX_ROOM: u64 = 1_048_576;
+
+/// The reason of a word that is unknown, missing or one too many.
+pub const WORD_FAULT: u8 = 1;
+/// The reason of a number that is malformed or out of range.
+pub const NUMBER_FAULT: u8 = 2;
+/// The reason of hex that is malformed or of a length that isn't allowed.
+pub const HEX_FAULT: u8 = 3;
+/// The reason of a header that is missing or has any fault.
+pub const HEADER_FAULT: u8 = 4;
+/// The reason of noise that decodes as a frame.
+pub const NOISE_FAULT: u8 = 5;
