@@ -8,7 +8,7 @@ use Rattle.frame_spec.specs.Baseline.{fault_of}
 use Rattle.script_spec.specs.declared.Line.{Line}
 use Rattle.script_spec.specs.declared.TheConstants.{WORD_FAULT, NUMBER_FAULT, HEX_FAULT, HEADER_FAULT, NOISE_FAULT}
 use Rattle.script_spec.specs.Fields.{Value, Lane, Number, Bytes, number_in, Form, LaneName, Decimal, MaskDigits, HexBytes, NoiseBytes}
-use Rattle.script_spec.specs.Script.{Action, row, all_lines, action_with, Header, header_name, room_field, fields_after_room, header_with, Script}
+use Rattle.script_spec.specs.Script.{Action, row, all_lines, action_with, Header, header_name, header_size, room_field, fields_after_room, header_with, Script}
 use Rattle.script_spec.specs.Text.{lines_of, words_of, after_name, is_passed_over, lane_text, is_number, decimal_value, hex_bytes, mask_of}
 
 infixl 10 ◌>>=◌
@@ -110,7 +110,7 @@ line_action words = do
 unfoldable pub header_at : List (List ℕ) → Result Header ℕ
 header_at words = do
   after ← or_reason WORD_FAULT (after_name header_name words)
-  parts ← counted 4 after
+  parts ← counted header_size after
   room ← field_at room_field parts
   values ← values_at (fields_after_room (number_in room.0)) room.1
   Ok (header_with (room.0 ∷ values))

@@ -172,6 +172,10 @@ fields_after_room room = lane_number ∷ lane_number ∷ HexBytes 1 room ∷ []
 abbrev pub header_row : ℕ → Row
 header_row room = line header_name (room_field ∷ fields_after_room room)
 
+-- how many words stand after a header's name
+abbrev pub header_size : ℕ
+header_size = length (header_row 0).fields
+
 abbrev pub header_values : Header → List Value
 header_values header = Number header.room ∷ Number header.low ∷ Number header.high ∷ Bytes header.factory ∷ []
 
