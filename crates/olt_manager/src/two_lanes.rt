@@ -16,7 +16,7 @@ use omci_frames::{Frame, packet_frame};
 use std::alloc::Global;
 use std::collections::VecDeque;
 use std::marker::Model;
-use tci_spec::HIGH_BIT;
+use tci_spec::FIRST_HIGH_TCI;
 
 #[derive(Drop)]
 pub struct TwoLanes {
@@ -37,7 +37,7 @@ impl Model for TwoLanes {
 fn priority_of(tci: u16) -> Priority
     ensures value { result ≡ priority_of tci }
 {
-    if tci < HIGH_BIT {
+    if tci < FIRST_HIGH_TCI {
         Priority::Low
     } else {
         Priority::High

@@ -3,7 +3,7 @@
 #![tactic(auto)]
 
 ghost use Rattle.std.specs.Prelude.{◌≡◌, ◌≢◌, ◌<◌, ◌≤◌};
-ghost use Rattle.omci_core.specs.Numbers.{next_number_of};
+ghost use Rattle.tci_spec.specs.Tci.{number_after};
 
 mod adapters;
 mod arrays;
@@ -29,7 +29,7 @@ pub use words::Words;
 pub fn next_number(n: u16) -> u16
     requires low { 0 < n }
     requires high { n ≤ LAST_NUMBER }
-    ensures value { result ≡ next_number_of n }
+    ensures value { result ≡ number_after n }
     ensures low { 0 < result }
     ensures high { result ≤ LAST_NUMBER }
     ensures differs { result ≢ n }

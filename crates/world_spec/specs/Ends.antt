@@ -1,11 +1,12 @@
 -- The two ends, each on or off, and what happens to them: at a submission, when a packet comes, with each second, and when the
 -- power goes or comes back. None of this knows the link.
-use Rattle.std.specs.Prelude.{ℕ, ◌+◌, ◌-◌, Bool, true, false, List, [], ◌∷◌, ◌++◌, length, map, take, replicate, Option, Some, None}
+use Rattle.std.specs.Prelude.{ℕ, ◌+◌, Bool, true, false, List, [], ◌∷◌, ◌++◌, length, map, Option, Some, None}
 use Rattle.std.specs.List.{flat_map}
 use Rattle.omci_types.specs.declared.Priority.{Priority}
 use Rattle.omci_types.specs.declared.SlotView.{SlotView}
 use Rattle.omci_types.specs.declared.Software.{Software}
 use Rattle.frame_spec.specs.Checksum.{crc}
+use Rattle.frame_spec.specs.Widths.{front_filled}
 use Rattle.script_spec.specs.Script.{Header}
 use Rattle.link_spec.specs.declared.Direction.{Direction}
 use Rattle.link_spec.specs.declared.Direction.TheVariants.{Down, Up}
@@ -32,13 +33,9 @@ pub record Step : Type 0 where
 
 -- ---- how they begin
 
--- the bytes, filled with zeros up to a width
-abbrev pub filled : ℕ → List ℕ → List ℕ
-filled width bytes = bytes ++ replicate (width - length bytes) 0
-
 -- what is known of an image
 abbrev pub view_of : List ℕ → SlotView
-view_of image = record { length = length image; crc = crc image; version = take 14 (filled 14 image) }
+view_of image = record { length = length image; crc = crc image; version = front_filled 14 image }
 
 -- the factory's image stands in slot 0, committed and active, and slot 1 isn't valid
 abbrev pub factory_software : List ℕ → Software
