@@ -1,6 +1,6 @@
 //! The link.
 
-ghost use Rattle.std.specs.Prelude.{◌≡◌, ◌+◌, ◌-◌, ◌<◌, ◌≤◌, ◌^◌, length, option_map, option_copied, is_some, slice_get, unwrap_or, IsSome, IfSome, IfOk, Some, None};
+ghost use Rattle.std.specs.Prelude.{true, ◌≡◌, ◌+◌, ◌-◌, ◌<◌, ◌≤◌, ◌^◌, length, option_map, option_copied, is_some, slice_get, unwrap_or, IsSome, IfSome, IfOk, Some, None};
 ghost use Rattle.std.specs.Borrow.{sem};
 ghost use Rattle.link_spec.specs.Link.{Link, way_in, empty_link, direction_if, is_down, count, sent_on, allowed, link_after, fresh, emptied};
 ghost use Rattle.link_spec.specs.Held.{held_of, nothing_held, first_held, held_packet, held_sent, held_allowed, held_after, held_fresh, held_emptied};
@@ -221,6 +221,20 @@ impl Lanes {
         let place = (number - self.latest.first()) as usize;
         self.latest.copy(place, &mut self.delivered);
         Some(&self.delivered)
+    }
+
+    /// Delivers the packet of that number into `came`, and answers whether it may come. Nothing changes where it may not.
+    pub fn take(&mut self, number: u64, came: &mut Packet) -> bool
+        ensures taken { result ≡ is_some (held_allowed number self.old) }
+        ensures packet { result ≡ true → Some came.new ≡ option_map (λ s. s.bytes) (held_allowed number self.old) }
+        ensures lanes { self.new ≡ held_after number self.old }
+    {
+        if !self.pass(number) {
+            return false;
+        }
+        let place = (number - self.latest.first()) as usize;
+        self.latest.copy(place, came);
+        true
     }
 
     /// The oldest packet that is fresh: its receiver is on, it may come, and none of its direction and lane from it on

@@ -14,7 +14,7 @@ use link_spec::{Direction, WINDOW};
 use omci_core::{MAX_PACKET_BYTES, NoMemory, Packet, Priority};
 use std::alloc::Global;
 use std::marker::Model;
-use tci_spec::HIGH_BIT;
+use tci_spec::FIRST_HIGH_TCI;
 
 /// So many bytes of each packet stand together: all of a baseline frame.
 pub(crate) const FRONT_LENGTH: usize = 48;
@@ -165,7 +165,7 @@ fn lane_of(bytes: &[u8; FRONT_LENGTH]) -> Priority
     ensures value { result ≡ lane_of bytes.now }
 {
     let tci = u16::from_be_bytes([bytes[0], bytes[1]]);
-    if tci < HIGH_BIT {
+    if tci < FIRST_HIGH_TCI {
         Priority::Low
     } else {
         Priority::High

@@ -1,0 +1,4 @@
+pub mod Deliveries
+pub mod Flows
+pub mod Following
+pub mod Loops

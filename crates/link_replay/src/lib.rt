@@ -1,4 +1,9 @@
 //! Both ends over a simulated link: a world runs the events of a script one after the other, and writes the lines of the trace.
 #![tactic(auto)]
 
+mod lines;
+mod machine;
+mod reports;
 mod texts;
+
+pub use lines::Lines;

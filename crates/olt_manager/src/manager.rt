@@ -61,6 +61,7 @@ impl Manager {
     pub fn probe(&mut self, priority: Priority, out: &mut Packets) -> Result<(), Refusal>
         ensures refused { IfErr result (λ r. r ≢ refusal.NoMemory → (after_probe priority self.old.manager).refusal ≡ Some r) }
         ensures accepted { OnOk result ((after_probe priority self.old.manager).refusal ≡ None) }
+        ensures kept { IfErr result (λ r. r ≢ refusal.NoMemory → (self.new ≡ self.old) × (out.new ≡ out.old)) }
         ensures manager { result ≢ Err refusal.NoMemory → self.new ≡ sound (after_probe priority self.old.manager).outcome.manager }
         ensures packets { result ≢ Err refusal.NoMemory
             → out.new ≡ out.old ++ packets_of (after_probe priority self.old.manager).outcome.sendings }
@@ -90,6 +91,7 @@ impl Manager {
         ensures refused { IfErr result (λ r. r ≢ refusal.NoMemory
             → (after_submit priority entity request self.old.manager).refusal ≡ Some r) }
         ensures accepted { OnOk result ((after_submit priority entity request self.old.manager).refusal ≡ None) }
+        ensures kept { IfErr result (λ r. r ≢ refusal.NoMemory → (self.new ≡ self.old) × (out.new ≡ out.old)) }
         ensures manager { result ≢ Err refusal.NoMemory
             → self.new ≡ sound (after_submit priority entity request self.old.manager).outcome.manager }
         ensures packets { result ≢ Err refusal.NoMemory
@@ -107,17 +109,19 @@ impl Manager {
         answer
     }
 
-    /// Takes a packet from the link. A packet that isn't exactly one frame, or that answers nothing that is outstanding, is
-    /// reported as dropped.
-    pub fn packet(&mut self, bytes: &[u8]) -> Result<(), NoMemory>
+    /// Takes a packet from the link, and puts what the manager sends on it into `out`. A packet that isn't exactly one frame, or
+    /// that answers nothing that is outstanding, is reported as dropped.
+    pub fn packet(&mut self, bytes: &[u8], out: &mut Packets) -> Result<(), NoMemory>
         ensures manager { OnOk result (self.new ≡ sound (after_packet bytes.now self.old.manager).manager) }
+        ensures packets { OnOk result (out.new ≡ out.old ++ packets_of (after_packet bytes.now self.old.manager).sendings) }
+        ensures whole { OnOk result (AreFrames (packets_of (after_packet bytes.now self.old.manager).sendings)) }
         ensures spent { self.old.spent ≡ true → OnOk result ⊥ }
         ensures spends { OnErr result (self.new.spent ≡ true) }
     {
         if self.spent {
             return Err(NoMemory);
         }
-        let done = self.lanes.packet(bytes);
+        let done = self.lanes.packet(bytes, out);
         self.spent = done.is_err();
         done
     }

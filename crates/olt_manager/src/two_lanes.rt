@@ -1,6 +1,6 @@
 //! The manager itself: its two lanes, and the reports that wait to be taken out.
 
-ghost use Rattle.std.specs.Prelude.{◌≡◌, ◌↔◌, ◌++◌, Option, Some, None, IfOk, OnOk, IsNone, option_to_list, []};
+ghost use Rattle.std.specs.Prelude.{◌≡◌, ◌↔◌, ◌++◌, Option, Some, None, IfOk, OnOk, IsNone, IsSome, option_to_list, []};
 ghost use Rattle.tci_spec.specs.Tci.{IsNumber, priority_of};
 ghost use Rattle.message_spec.specs.Reading.{RequestWindow};
 ghost use Rattle.lane_spec.specs.Command.{command_packets, is_changing};
@@ -166,6 +166,7 @@ impl TwoLanes {
     ) -> Result<Option<Refusal>, NoMemory>
         ensures refusal { IfOk result (λ refusal. refusal ≡ (after_probe priority self.old).refusal) }
         ensures manager { OnOk result (self.new ≡ (after_probe priority self.old).outcome.manager) }
+        ensures kept { IfOk result (λ refusal. IsSome refusal → (self.new ≡ self.old) × (out.new ≡ out.old)) }
         ensures packets { OnOk result (out.new ≡ out.old ++ packets_of (after_probe priority self.old).outcome.sendings) }
         ensures whole { OnOk result (AreFrames (packets_of (after_probe priority self.old).outcome.sendings)) }
     {
@@ -188,6 +189,7 @@ impl TwoLanes {
         requires window { RequestWindow request }
         ensures refusal { IfOk result (λ refusal. refusal ≡ (after_submit priority entity request self.old).refusal) }
         ensures manager { OnOk result (self.new ≡ (after_submit priority entity request self.old).outcome.manager) }
+        ensures kept { IfOk result (λ refusal. IsSome refusal → (self.new ≡ self.old) × (out.new ≡ out.old)) }
         ensures packets { OnOk result (out.new ≡ out.old ++ packets_of (after_submit priority entity request self.old).outcome.sendings) }
         ensures whole { OnOk result (AreFrames (packets_of (after_submit priority entity request self.old).outcome.sendings)) }
     {
@@ -207,10 +209,12 @@ impl TwoLanes {
         Ok(())
     }
 
-    /// Takes a packet from the link.
-    #[tactic(auto, unfolding(manager_spec::specs::Manager::after_packet))]
-    pub fn packet(&mut self, bytes: &[u8]) -> Result<(), NoMemory>
+    /// Takes a packet from the link. Nothing is sent on it.
+    #[tactic(auto, unfolding(manager_spec::specs::Manager::after_packet), using(crate::proofs::Untaken::nothing_sent))]
+    pub fn packet(&mut self, bytes: &[u8], _out: &mut Packets) -> Result<(), NoMemory>
         ensures manager { OnOk result (self.new ≡ (after_packet bytes.now self.old).manager) }
+        ensures packets { OnOk result (_out.new ≡ _out.old ++ packets_of (after_packet bytes.now self.old).sendings) }
+        ensures whole { OnOk result (AreFrames (packets_of (after_packet bytes.now self.old).sendings)) }
     {
         match packet_frame(bytes) {
             None => self.report(Report::Dropped)?,

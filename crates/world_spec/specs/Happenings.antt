@@ -73,17 +73,20 @@ abbrev pub held_read : List Happening → Held → Held
 held_read [] l = l
 held_read (h ∷ rest) l = held_read rest (on_held h l)
 
--- how many packets go onto the link
-abbrev pub packets_in : List Happening → ℕ
-packets_in [] = 0
-packets_in (PacketSent whose packet ∷ rest) = packets_in rest + 1
-packets_in (UnitStarted life software ∷ rest) = packets_in rest
-packets_in (ManagerStarted ∷ rest) = packets_in rest
-packets_in (PacketCame number packet ∷ rest) = packets_in rest
-packets_in (UnitCarried life reply before ∷ rest) = packets_in rest
-packets_in (UnitKept ∷ rest) = packets_in rest
-packets_in (UnitDropped ∷ rest) = packets_in rest
-packets_in (CommandDrawn lane ∷ rest) = packets_in rest
-packets_in (Reported report ∷ rest) = packets_in rest
-packets_in (Refused refusal ∷ rest) = packets_in rest
-packets_in (NotEnabled ∷ rest) = packets_in rest
+-- the number of the next packet after it, from the number of the next packet before it
+abbrev pub next_after : Happening → ℕ → ℕ
+next_after (UnitStarted life software) next = next
+next_after ManagerStarted next = next
+next_after (PacketCame number packet) next = next
+next_after (PacketSent whose packet) next = next + 1
+next_after (UnitCarried life reply before) next = next
+next_after UnitKept next = next
+next_after UnitDropped next = next
+next_after (CommandDrawn lane) next = next
+next_after (Reported report) next = next
+next_after (Refused refusal) next = next
+next_after NotEnabled next = next
+
+abbrev pub next_after_all : List Happening → ℕ → ℕ
+next_after_all [] next = next
+next_after_all (h ∷ rest) next = next_after_all rest (next_after h next)

@@ -1,6 +1,5 @@
 -- The trace of a script: a line for each effect of what happens. The packets are numbered as they go onto the link.
-use Rattle.std.specs.Prelude.{ℕ, ◌+◌, List, [], ◌∷◌, ◌++◌, Option, Some, None, codes}
-use Rattle.std.specs.List.{flat_map}
+use Rattle.std.specs.Prelude.{ℕ, List, [], ◌∷◌, ◌++◌, Option, Some, None, codes}
 use Rattle.std.specs.Int.{w16, w32, to_be_bytes}
 use Rattle.std.specs.Fmt.{decimal}
 use Rattle.hex.specs.Hex.{encode_lower}
@@ -19,7 +18,7 @@ use Rattle.manager_spec.specs.declared.Report.{Report}
 use Rattle.manager_spec.specs.declared.Report.TheVariants as report
 use Rattle.world_spec.specs.declared.Effect.{Effect}
 use Rattle.world_spec.specs.declared.Effect.TheVariants as effect
-use Rattle.world_spec.specs.Happenings.{Happening, UnitStarted, ManagerStarted, PacketCame, PacketSent, UnitCarried, UnitKept, UnitDropped, CommandDrawn, Reported, Refused, NotEnabled, packets_in}
+use Rattle.world_spec.specs.Happenings.{Happening, UnitStarted, ManagerStarted, PacketCame, PacketSent, UnitCarried, UnitKept, UnitDropped, CommandDrawn, Reported, Refused, NotEnabled, next_after}
 use Rattle.world_spec.specs.Ends.{factory_software}
 use Rattle.world_spec.specs.Nodes.{Nodes, Turn, step, first_nodes}
 
@@ -72,27 +71,28 @@ line_text event e = decimal event ++ codes " " ++ effect_text e ++ codes "\n"
 
 -- ---- the trace's reading of what happens
 
--- what is seen of it, where that is the number of the next packet
-abbrev pub effects_of : ℕ → Happening → List Effect
-effects_of next (UnitStarted life software) = effect.UnitStarted life software ∷ []
-effects_of next ManagerStarted = []
-effects_of next (PacketCame number packet) = []
-effects_of next (PacketSent whose packet) = effect.PacketSent next packet.direction (frame_of packet.bytes) ∷ []
-effects_of next (UnitCarried life reply before) = effect.Carried life ∷ []
-effects_of next UnitKept = effect.Kept ∷ []
-effects_of next UnitDropped = effect.Dropped ∷ []
-effects_of next (CommandDrawn lane) = []
-effects_of next (Reported what) = effect.Reported what ∷ []
-effects_of next (Refused why) = effect.Refused why ∷ []
-effects_of next NotEnabled = effect.NotEnabled ∷ []
+-- what is seen of it, if anything, where that is the number of the next packet
+abbrev pub effect_of : ℕ → Happening → Option Effect
+effect_of next (UnitStarted life software) = Some (effect.UnitStarted life software)
+effect_of next ManagerStarted = None
+effect_of next (PacketCame number packet) = None
+effect_of next (PacketSent whose packet) = Some (effect.PacketSent next packet.direction (frame_of packet.bytes))
+effect_of next (UnitCarried life reply before) = Some (effect.Carried life)
+effect_of next UnitKept = Some effect.Kept
+effect_of next UnitDropped = Some effect.Dropped
+effect_of next (CommandDrawn lane) = None
+effect_of next (Reported what) = Some (effect.Reported what)
+effect_of next (Refused why) = Some (effect.Refused why)
+effect_of next NotEnabled = Some effect.NotEnabled
 
-abbrev pub lines_of : ℕ → ℕ → Happening → List ℕ
-lines_of event next h = flat_map (line_text event) (effects_of next h)
+abbrev pub line_if : ℕ → Option Effect → List ℕ
+line_if event None = []
+line_if event (Some e) = line_text event e
 
 -- the lines of one event, whose first packet has that number
 abbrev pub lines_text : ℕ → ℕ → List Happening → List ℕ
 lines_text event next [] = []
-lines_text event next (h ∷ rest) = lines_of event next h ++ lines_text event (next + packets_in (h ∷ [])) rest
+lines_text event next (h ∷ rest) = line_if event (effect_of next h) ++ lines_text event (next_after h next) rest
 
 -- the lines of a line of the script, from these nodes on
 abbrev pub turn_text : Nodes → Turn → List ℕ

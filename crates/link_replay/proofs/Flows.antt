@@ -1,0 +1,191 @@
+-- Deliveries one after the other: what has happened so far, and what is left.
+use Rattle.std.proofs.Common.{◌≡◌, ℕ, zero, suc, ◌+◌, ◌-◌, Bool, List, [], ◌∷◌, ◌++◌, Option, Some, None, is_some, refl, sym, ◌∙◌, ap, append_assoc}
+use Rattle.std.proofs.lemmas.List.{append-nil}
+use Rattle.unit_spec.specs.declared.Did.{Did}
+use Rattle.unit_spec.specs.declared.Did.TheVariants as did
+use Rattle.unit_spec.specs.Onu.{Onu, onu_received}
+use Rattle.link_spec.specs.declared.Direction.{Direction}
+use Rattle.link_spec.specs.declared.Direction.TheVariants.{Down, Up}
+use Rattle.link_spec.specs.Link.{Sent, Link, allowed, fresh}
+use Rattle.link_spec.specs.Held.{Held, held_of, held_allowed, held_fresh, held_sent}
+use Rattle.link_laws.proofs.Held.{held_of-allowed, held_of-fresh, held_of-sent, held_of-delivered, held_of-emptied}
+use Rattle.manager_spec.specs.Manager.{Manager}
+use Rattle.world_spec.specs.Happenings.{Happening, UnitStarted, ManagerStarted, PacketCame, PacketSent, UnitCarried, UnitKept, UnitDropped, CommandDrawn, Reported, Refused, NotEnabled, on_link, link_read, on_held, held_read, next_after, next_after_all}
+use Rattle.world_spec.specs.Ends.{Ends, Step, still, unit_got, manager_got, arrives, arrives_at}
+use Rattle.world_spec.specs.Nodes.{Nodes, delivered_one, delivered, nodes_after_step, goes_on, flow_from, oldest_fresh, flow}
+use Rattle.world_spec.specs.Trace.{line_if, effect_of, lines_text}
+use Rattle.link_replay.specs.Seen.{Seen, Shown, shown, followed, seen_of}
+
+-- ---- the readings of what happens, one part after the other
+
+pub link_both : (xs ys : List Happening) (l : Link) → link_read (xs ++ ys) l ≡ link_read ys (link_read xs l)
+link_both [] ys l = refl
+link_both (x ∷ xs) ys l = link_both xs ys (on_link x l)
+
+pub lines_both : (event next : ℕ) (xs ys : List Happening) → lines_text event next (xs ++ ys) ≡ lines_text event next xs ++ lines_text event (next_after_all xs next) ys
+lines_both event next [] ys = refl
+lines_both event next (x ∷ xs) ys =
+    let line = line_if event (effect_of next x) in
+    ap (λ t. line ++ t) (lines_both event (next_after x next) xs ys)
+    ∙ sym (append_assoc line (lines_text event (next_after x next) xs) (lines_text event (next_after_all xs (next_after x next)) ys))
+
+pub next_both : (xs ys : List Happening) (next : ℕ) → next_after_all (xs ++ ys) next ≡ next_after_all ys (next_after_all xs next)
+next_both [] ys next = refl
+next_both (x ∷ xs) ys next = next_both xs ys (next_after x next)
+
+on_held_of : (x : Happening) (l : Link) → held_of (on_link x l) ≡ on_held x (held_of l)
+on_held_of (UnitStarted life software) l = held_of-emptied l
+on_held_of ManagerStarted l = held_of-emptied l
+on_held_of (PacketCame number packet) l = held_of-delivered number packet l
+on_held_of (PacketSent whose packet) l = held_of-sent packet l
+on_held_of (UnitCarried life reply before) l = refl
+on_held_of UnitKept l = refl
+on_held_of UnitDropped l = refl
+on_held_of (CommandDrawn lane) l = refl
+on_held_of (Reported report) l = refl
+on_held_of (Refused refusal) l = refl
+on_held_of NotEnabled l = refl
+
+-- what is held of the link is read as the link is
+pub held_reads : (xs : List Happening) (l : Link) → held_of (link_read xs l) ≡ held_read xs (held_of l)
+held_reads [] l = refl
+held_reads (x ∷ xs) l = held_reads xs (on_link x l) ∙ ap (held_read xs) (on_held_of x l)
+
+on_held_count : (x : Happening) (h : Held) → (on_held x h).count ≡ next_after x h.count
+unfolding held_sent
+on_held_count (UnitStarted life software) h = refl
+on_held_count ManagerStarted h = refl
+on_held_count (PacketCame number packet) h = refl
+on_held_count (PacketSent whose packet) h = refl
+on_held_count (UnitCarried life reply before) h = refl
+on_held_count UnitKept h = refl
+on_held_count UnitDropped h = refl
+on_held_count (CommandDrawn lane) h = refl
+on_held_count (Reported report) h = refl
+on_held_count (Refused refusal) h = refl
+on_held_count NotEnabled h = refl
+
+pub held_count : (xs : List Happening) (h : Held) → (held_read xs h).count ≡ next_after_all xs h.count
+held_count [] h = refl
+held_count (x ∷ xs) h = held_count xs (on_held x h) ∙ ap (next_after_all xs) (on_held_count x h)
+
+-- ---- a delivery is part of its event
+
+pub delivered_event : (o : Option Sent) (number : ℕ) (e : Ends) → (delivered_one o number e).ends.event ≡ e.event
+unfolding arrives
+delivered_event None number e = refl
+delivered_event (Some s) number e = at s.direction e.unit e.manager
+  where
+    by_unit : (o : Option Onu) → (unit_got (PacketCame number s ∷ []) s.bytes o e).ends.event ≡ e.event
+    by_unit None = refl
+    by_unit (Some u) = refl
+
+    by_manager : (o : Option Manager) → (manager_got (PacketCame number s ∷ []) s.bytes o e).ends.event ≡ e.event
+    by_manager None = refl
+    by_manager (Some m) = refl
+
+    at : (d : Direction) (u : Option Onu) (m : Option Manager) → (arrives_at d (PacketCame number s ∷ []) s.bytes e).ends.event ≡ e.event
+    at Down u m = by_unit e.unit
+    at Up u m = by_manager e.manager
+
+-- ---- flows
+
+abbrev pub nodes_of : Seen → Link → Nodes
+nodes_of w l = record { ends = w.ends; link = l }
+
+abbrev pub after_these : List Happening → Step → Step
+after_these first s = record { ends = s.ends; happenings = first ++ s.happenings }
+
+-- after some deliveries: what has happened, and that the whole flow is that and the flow of what is left
+pub record FlowAt (times left : ℕ) (first now : Seen) (before text : List ℕ) (l : Link) : Type 0 where
+  pub happened : List Happening
+  pub event : now.ends.event ≡ first.ends.event
+  pub held : now.held ≡ held_of (link_read happened l)
+  pub next : now.held.count ≡ next_after_all happened first.held.count
+  pub lines : text ≡ before ++ lines_text first.ends.event first.held.count happened
+  pub whole : flow times (nodes_of first l) ≡ after_these happened (flow left (nodes_of now (link_read happened l)))
+
+abbrev pub FlowSoFar : (times left : ℕ) → (first now : Seen) → (before text : List ℕ) → Type 0
+FlowSoFar times left first now before text = (l : Link) → first.held ≡ held_of l → FlowAt times left first now before text l
+
+pub flow_begins : (times : ℕ) (first : Seen) (before : List ℕ) → FlowSoFar times times first first before before
+flow_begins times first before = λ l same. record { happened = []; event = refl; held = same; next = refl; lines = sym (append-nil before); whole = refl }
+
+flow_next : (left number : ℕ) (n : Nodes) → oldest_fresh n ≡ Some number → flow (suc left) n ≡ goes_on (flow left) (delivered number n) n
+unfolding flow
+flow_next left number n found = ap (λ o. flow_from o (flow left) n) found
+
+flow_none : (left : ℕ) (n : Nodes) → oldest_fresh n ≡ None → flow left n ≡ still n.ends
+unfolding flow
+flow_none zero n none = refl
+flow_none (suc left) n none = ap (λ o. flow_from o (flow left) n) none
+
+flow_zero : (n : Nodes) → flow 0 n ≡ still n.ends
+unfolding flow
+flow_zero n = refl
+
+-- what is found in what is held is found in the link
+found_there : (w : Seen) (l : Link) → w.held ≡ held_of l → held_fresh (is_some w.ends.unit) (is_some w.ends.manager) w.held ≡ oldest_fresh (nodes_of w l)
+found_there w l same = ap (held_fresh (is_some w.ends.unit) (is_some w.ends.manager)) same ∙ held_of-fresh (is_some w.ends.unit) (is_some w.ends.manager) l
+
+delivered_there : (number : ℕ) (w : Seen) (l : Link) → w.held ≡ held_of l → delivered_one (held_allowed number w.held) number w.ends ≡ delivered number (nodes_of w l)
+unfolding delivered
+delivered_there number w l same = ap (λ o. delivered_one o number w.ends) (ap (held_allowed number) same ∙ held_of-allowed number l)
+
+pub flow_goes_on : (times left number : ℕ) (first now after : Seen) (before text more : List ℕ) → FlowSoFar times (suc left) first now before text → Some number ≡ held_fresh (is_some now.ends.unit) (is_some now.ends.manager) now.held → shown after more ≡ followed (delivered_one (held_allowed number now.held) number now.ends) now text → FlowSoFar times left first after before more
+flow_goes_on times left number first now after before text more so_far found step = λ l same.
+    goes l (so_far l same)
+  where
+    goes : (l : Link) → FlowAt times (suc left) first now before text l → FlowAt times left first after before more l
+    goes l at =
+        let link = link_read at.happened l in
+        let n = nodes_of now link in
+        let s = delivered number n in
+        let is_s = delivered_there number now link at.held in
+        let step' = step ∙ ap (λ t. followed t now text) is_s in
+        let ends' : after.ends ≡ s.ends = ap (λ (x : Shown). x.seen.ends) step' in
+        let held' : after.held ≡ held_read s.happenings now.held = ap (λ (x : Shown). x.seen.held) step' in
+        let text' : more ≡ text ++ lines_text now.ends.event now.held.count s.happenings = ap (λ (x : Shown). x.text) step' in
+        let reads : after.held ≡ held_of (link_read s.happenings link) = held' ∙ ap (held_read s.happenings) at.held ∙ sym (held_reads s.happenings link) in
+        let all = at.happened ++ s.happenings in
+        let link' : link_read s.happenings link ≡ link_read all l = sym (link_both at.happened s.happenings l) in
+        let t = flow left (nodes_after_step s n) in
+        record {
+          happened = all;
+          event = ap (λ (x : Ends). x.event) (ends' ∙ ap (λ (x : Step). x.ends) (sym is_s)) ∙ delivered_event (held_allowed number now.held) number now.ends ∙ at.event;
+          held = reads ∙ ap held_of link';
+          next = ap (λ (h : Held). h.count) held' ∙ held_count s.happenings now.held ∙ ap (next_after_all s.happenings) at.next ∙ sym (next_both at.happened s.happenings first.held.count);
+          lines =
+              text'
+              ∙ ap (λ e. text ++ lines_text e now.held.count s.happenings) at.event
+              ∙ ap (λ k. text ++ lines_text first.ends.event k s.happenings) at.next
+              ∙ ap (λ b. b ++ lines_text first.ends.event (next_after_all at.happened first.held.count) s.happenings) at.lines
+              ∙ append_assoc before (lines_text first.ends.event first.held.count at.happened) (lines_text first.ends.event (next_after_all at.happened first.held.count) s.happenings)
+              ∙ ap (λ b. before ++ b) (sym (lines_both first.ends.event first.held.count at.happened s.happenings));
+          whole =
+              at.whole
+              ∙ ap (after_these at.happened) (flow_next left number n (sym (found ∙ found_there now link at.held)))
+              ∙ ap (λ hs. record { ends = t.ends; happenings = hs }) (sym (append_assoc at.happened s.happenings t.happenings))
+              ∙ ap (λ m. after_these all (flow left m)) (ap (λ e. record { ends = e; link = link_read s.happenings link }) (sym ends') ∙ ap (λ k. nodes_of after k) link');
+        }
+
+-- the flow is at its end
+flow_over : (times left : ℕ) (first now : Seen) (before text : List ℕ) (l : Link) → first.held ≡ held_of l → (at : FlowAt times left first now before text l) → flow left (nodes_of now (link_read at.happened l)) ≡ still now.ends → shown now text ≡ followed (flow times (nodes_of first l)) first before
+flow_over times left first now before text l same at over =
+    let whole : flow times (nodes_of first l) ≡ record { ends = now.ends; happenings = at.happened } =
+    at.whole ∙ ap (after_these at.happened) over ∙ ap (λ hs. record { ends = now.ends; happenings = hs }) (append-nil at.happened) in
+    let held : now.held ≡ held_read at.happened first.held = at.held ∙ held_reads at.happened l ∙ ap (held_read at.happened) (sym same) in
+    ap (λ h. shown (record { ends = now.ends; held = h }) text) held
+    ∙ ap (λ t. shown (record { ends = now.ends; held = held_read at.happened first.held }) t) at.lines
+    ∙ ap (λ s. followed s first before) (sym whole)
+
+pub flow_stops : (times left : ℕ) (first now : Seen) (before text : List ℕ) → FlowSoFar times left first now before text → None ≡ held_fresh (is_some now.ends.unit) (is_some now.ends.manager) now.held → (l : Link) → first.held ≡ held_of l → shown now text ≡ followed (flow times (nodes_of first l)) first before
+flow_stops times left first now before text so_far none l same =
+    let at = so_far l same in
+    let link = link_read at.happened l in
+    flow_over times left first now before text l same at (flow_none left (nodes_of now link) (sym (none ∙ found_there now link at.held)))
+
+pub flow_ends : (times : ℕ) (first now : Seen) (before text : List ℕ) → FlowSoFar times 0 first now before text → (l : Link) → first.held ≡ held_of l → shown now text ≡ followed (flow times (nodes_of first l)) first before
+flow_ends times first now before text so_far l same =
+    let at = so_far l same in
+    flow_over times 0 first now before text l same at (flow_zero (nodes_of now (link_read at.happened l)))
