@@ -7,3 +7,5 @@ mod failing;
 mod harness;
 #[cfg(test)]
 mod runs;
+#[cfg(test)]
+mod script;
