@@ -1,38 +1,39 @@
 //! Reading scripts: every kind of line, every kind of fault, and the ends of lines.
 
 use omci_core::{Bytes, EntityId, Priority};
-use replay_script::{Event, ScriptRefusal, read};
+use replay_script::{Event, Script, ScriptRefusal, read};
 use std::alloc::{AllocError, Global};
 use std::test::*;
 
 const HEADER: &str = "omci 1 16 1 32767 00ff\n";
 
-const EVERY_LINE: &str = "# a script\r\n\r\nomci 1 0016 00001 32767 00fF0a\n\
+/// Lines of the manager after lines that are passed over, line ends of both kinds among them.
+const COMMANDS: &str = "# a script\r\n\r\nomci 1 0016 00001 32767 00fF0a\n\
 probe low\n\
 get low 2 0 8000\r\n\
 \n\
 create low 00272 5 0030Ab\n\
-create low 272 65535 -\n\
-set low 272 5 c00F 00\n\
 #delete low 1 1\n\
-delete low 272 5\n\
-reset low\n\
-deliver 007\n\
+set high 272 65535 c00F -\n\
 # \u{e9}\0\t\r in the middle\n\
-probe high\n\
-set high 272 5 C00f -\n\
-tick\r\n\
+delete low 272 5\n\
+reset high";
+
+/// Lines of the link, of time and of power.
+const OTHERS: &str = "omci 1 16 1 1 00\n\
+deliver 007\n\
+flow 65536\n\
 noise unit 00014A\n\
 noise olt -\n\
+tick\r\n\
 cut unit\n\
 cut olt\n\
 start unit\n\
-start olt 00001 32767\n\
-flow 65536";
+start olt 00001 32767\n";
 
 /// A get of ONU data in 48 bytes, with the check value that it has to have.
-const FRAME: &str = "0001490a0002000080000000000000000000000000000000000000000000000000000000000000000000002886d7d0d6";
-
+const FRAME: &str =
+    "0001490a0002000080000000000000000000000000000000000000000000000000000000000000000000002886d7d0d6";
 
 const PORT: EntityId = EntityId {
     class: 272,
@@ -63,77 +64,105 @@ fn refusal(alloc: Global, front: &str, middle: &str, back: &str) -> Result<(u64,
     refusal_of_script(alloc, &bytes)
 }
 
+/// Whether the script's event at this place is the one that is wanted.
+fn has_event(script: &Script, place: usize, wanted: &Event) -> bool {
+    place < script.len() && script.event(place) == wanted
+}
+
 #[test]
-fn every_line_is_read(rt: HostRuntime) -> Result<(), Fail> {
-    let alloc = rt.alloc();
-    let script = read(alloc, EVERY_LINE.as_bytes())?;
+fn headers_are_read(rt: HostRuntime) -> Result<(), Fail> {
+    let script = read(rt.alloc(), COMMANDS.as_bytes())?;
     assert_eq!(rt; script.header().room, 16);
     assert_eq!(rt; script.header().low, 1);
     assert_eq!(rt; script.header().high, 32_767);
     assert_eq!(rt; script.header().factory.bytes(), [0, 255, 10].as_slice());
-    let lane = Priority::Low;
-    let high = Priority::High;
-    let events = vec![in alloc;
-        Event::Probe { lane },
-        Event::Get {
-            lane,
-            entity: EntityId {
-                class: 2,
-                instance: 0
-            },
-            mask: 0x8000
-        },
-        Event::Create {
-            lane,
-            entity: PORT,
-            values: Bytes::of(alloc, &[0, 0x30, 0xab])?
-        },
-        Event::Create {
-            lane,
-            entity: EntityId {
-                class: 272,
-                instance: 65_535
-            },
-            values: Bytes::of(alloc, &[])?
-        },
-        Event::Set {
-            lane,
-            entity: PORT,
-            mask: 0xc00f,
-            values: Bytes::of(alloc, &[0])?
-        },
-        Event::Delete { lane, entity: PORT },
-        Event::Reset { lane },
-        Event::Deliver { packet: 7 },
-        Event::Probe { lane: high },
-        Event::Set {
-            lane: high,
-            entity: PORT,
-            mask: 0xc00f,
-            values: Bytes::of(alloc, &[])?
-        },
-        Event::Tick,
-        Event::NoiseUnit {
-            bytes: Bytes::of(alloc, &[0, 1, 0x4a])?
-        },
-        Event::NoiseOlt {
-            bytes: Bytes::of(alloc, &[])?
-        },
-        Event::CutUnit,
-        Event::CutOlt,
-        Event::StartUnit,
-        Event::StartOlt {
-            low: 1,
-            high: 32_767
-        },
-        Event::Flow { times: 65_536 },
-    ]?;
     assert!(rt; !script.is_empty());
     assert!(rt; std::mem::size_of::<Event>() <= 40);
-    assert_eq!(rt; script.len(), events.len());
-    for (place, event) in events.iter().enumerate() {
-        assert_eq!(rt; script.event(place), event);
-    }
+    Ok(())
+}
+
+#[test]
+fn commands_are_read(rt: HostRuntime) -> Result<(), Fail> {
+    let alloc = rt.alloc();
+    let script = read(alloc, COMMANDS.as_bytes())?;
+    let lane = Priority::Low;
+    let high = Priority::High;
+    let onu_data = EntityId {
+        class: 2,
+        instance: 0,
+    };
+    let last = EntityId {
+        class: 272,
+        instance: 65_535,
+    };
+    let values = Bytes::of(alloc, &[0, 0x30, 0xab])?;
+    let none = Bytes::of(alloc, &[])?;
+    assert_eq!(rt; script.len(), 6);
+    assert!(rt; has_event(&script, 0, &Event::Probe { lane }));
+    assert!(rt;
+        has_event(
+            &script,
+            1,
+            &Event::Get {
+                lane,
+                entity: onu_data,
+                mask: 0x8000
+            }
+        )
+    );
+    assert!(rt;
+        has_event(
+            &script,
+            2,
+            &Event::Create {
+                lane,
+                entity: PORT,
+                values
+            }
+        )
+    );
+    assert!(rt;
+        has_event(
+            &script,
+            3,
+            &Event::Set {
+                lane: high,
+                entity: last,
+                mask: 0xc00f,
+                values: none
+            }
+        )
+    );
+    assert!(rt; has_event(&script, 4, &Event::Delete { lane, entity: PORT }));
+    assert!(rt; has_event(&script, 5, &Event::Reset { lane: high }));
+    Ok(())
+}
+
+#[test]
+fn other_lines_are_read(rt: HostRuntime) -> Result<(), Fail> {
+    let alloc = rt.alloc();
+    let script = read(alloc, OTHERS.as_bytes())?;
+    let bytes = Bytes::of(alloc, &[0, 1, 0x4a])?;
+    let none = Bytes::of(alloc, &[])?;
+    assert_eq!(rt; script.len(), 9);
+    assert!(rt; has_event(&script, 0, &Event::Deliver { packet: 7 }));
+    assert!(rt; has_event(&script, 1, &Event::Flow { times: 65_536 }));
+    assert!(rt; has_event(&script, 2, &Event::NoiseUnit { bytes }));
+    assert!(rt; has_event(&script, 3, &Event::NoiseOlt { bytes: none }));
+    assert!(rt; has_event(&script, 4, &Event::Tick));
+    assert!(rt; has_event(&script, 5, &Event::CutUnit));
+    assert!(rt; has_event(&script, 6, &Event::CutOlt));
+    assert!(rt; has_event(&script, 7, &Event::StartUnit));
+    assert!(rt;
+        has_event(
+            &script,
+            8,
+            &Event::StartOlt {
+                low: 1,
+                high: 32_767
+            }
+        )
+    );
     Ok(())
 }
 

@@ -1,5 +1,5 @@
-//! Laws of scripts: which bytes write a script, which have a fault, and that reading from left to right finds out.
-//! Each law is the clause of a function with an empty body.
+//! Laws of scripts: which bytes write a script, which have a fault, and that reading from left to
+//! right finds out. Each law is the clause of a function with an empty body.
 #![tactic(auto)]
 
 ghost use Rattle.std.specs.Prelude.{◌≡◌, ◌⊎◌, ℕ, List, Some, None, Ok, Err};
