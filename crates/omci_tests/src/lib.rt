@@ -14,3 +14,5 @@ mod frames;
 mod harness;
 #[cfg(test)]
 mod runs;
+#[cfg(test)]
+mod script;

@@ -20,7 +20,8 @@ words_left None = []
 abbrev pub end_named : Line → Line → List (List ℕ) → Option (Line × List (List ℕ))
 end_named unit olt words = or_among unit (after_name (codes "unit" ∷ []) words) (or_among olt (after_name (codes "olt" ∷ []) words) None)
 
--- what stands before a line feed, and the line's text: one carriage return at the end is no part of it
+-- what stands before a line feed, and the line's text: one carriage return at the end is no part of
+-- it
 abbrev pub IsTextOf : List ℕ → List ℕ → Type 0
 IsTextOf line text = (line ≡ text ++ (13 ∷ [])) ⊎ ((text ≡ line) × ((front : List ℕ) → line ≢ front ++ (13 ∷ [])))
 

@@ -1,5 +1,5 @@
-//! Scripts: a header and events, as text. `read` takes a script's bytes apart, or answers the first fault by its
-//! line and its reason.
+//! Scripts: a header and events, as text. `read` takes a script's bytes apart, or answers the first
+//! fault by its line and its reason.
 #![tactic(auto)]
 
 mod events;

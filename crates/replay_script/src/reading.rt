@@ -17,8 +17,8 @@ use std::alloc::Global;
 
 /// Reads a script, all of the bytes, in one pass.
 ///
-/// `Fault` has the first fault's line, from 1, and its reason; `NoMemory` where there is no room for what the events
-/// keep.
+/// `Fault` has the first fault's line, from 1, and its reason; `NoMemory` where there is no room
+/// for what the events keep.
 pub fn read(alloc: Global, bytes: &[u8]) -> Result<Script, ScriptRefusal>
     // What is read is written so.
     ensures written { IfOk result (λ script. Writes script bytes.now) }
@@ -27,7 +27,8 @@ pub fn read(alloc: Global, bytes: &[u8]) -> Result<Script, ScriptRefusal>
     // What is written so is read, unless memory runs out.
     ensures only { ReadsOnly result bytes.now }
 
-    // What is refused has this first fault, and what has a fault is refused for it, unless memory runs out.
+    // What is refused has this first fault, and what has a fault is refused for it, unless memory
+    // runs out.
     ensures refused { IfErr result (λ refusal. IsFaultOf refusal bytes.now) }
     ensures faulty { RefusesOnly result bytes.now }
 {

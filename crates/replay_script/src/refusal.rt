@@ -8,9 +8,10 @@ use thiserror::Error;
 /// Why bytes were not read as a script.
 #[derive(Clone, Copy, Debug, PartialEq, Eq, Error)]
 pub enum ScriptRefusal {
-    /// The first fault: the line's number, from 1, and the reason. 1 is an unknown word, a missing word or one too
-    /// many; 2 a number that is malformed or out of range; 3 hex that is malformed or of a length that isn't
-    /// allowed; 4 a header that is missing or has any fault; 5 noise that decodes as a frame.
+    /// The first fault: the line's number, from 1, and the reason. 1 is an unknown word, a missing
+    /// word or one too many; 2 a number that is malformed or out of range; 3 hex that is malformed
+    /// or of a length that isn't allowed; 4 a header that is missing or has any fault; 5 noise that
+    /// decodes as a frame.
     #[error("line {line}: reason {reason}")]
     Fault { line: u64, reason: u8 },
     /// There was no memory for what the script says.

@@ -19,7 +19,8 @@ pub struct Header {
     pub factory: Bytes,
 }
 
-/// What a line of a script asks for. Bytes are kept as they were written; they are filled when the event is run.
+/// What a line of a script asks for. Bytes are kept as they were written; they are filled when the
+/// event is run.
 #[derive(Debug, PartialEq, Eq, Drop)]
 pub enum Event {
     /// The manager asks for the unit's MIB data sync, to see that the lane is alive.
@@ -78,14 +79,16 @@ pub enum Event {
     CutOlt,
     /// The unit gets its power back.
     StartUnit,
-    /// The manager gets its power back, and its two lanes begin with these numbers, 1 to 32,767 each.
+    /// The manager gets its power back, and its two lanes begin with these numbers, 1 to 32,767
+    /// each.
     StartOlt {
         low: u16,
         high: u16,
     },
 }
 
-/// A script: a header, and events. Contracts see what it says, and each of its numbers and bytes is in its range.
+/// A script: a header, and events. Contracts see what it says, and each of its numbers and bytes is
+/// in its range.
 #[derive(Debug, Drop)]
 pub struct Script {
     header: Header,

@@ -210,7 +210,11 @@ fn spaces(text: &[u8]) -> usize
     ensures value { result ≡ count_by (λ b. b == 32) text.now }
     ensures bound { result ≤ length text.now }
 {
-    text.iter().filter(|byte| **byte == b' ').count()
+    let mut count = 0;
+    for byte in text {
+        count += usize::from(*byte == b' ');
+    }
+    count
 }
 
 /// A text's first word, and the text after the space that follows it, if one does.
@@ -224,35 +228,21 @@ fn first_word(text: &[u8]) -> (&[u8], Option<&[u8]>)
 }
 
 /// The number of 1 to `MAX_DIGITS` decimal digits.
+#[tactic(auto, unfolding(script_spec::specs::Text::decimal_value))]
 fn numeral(word: &[u8]) -> Option<u64>
     ensures value { result ≡ (if is_numeral word.now then Some (decimal_value word.now) else None) }
 {
-    if word.is_empty() || word.len() > MAX_DIGITS || !are_digits(word) {
+    if word.is_empty() || word.len() > MAX_DIGITS {
         return None;
     }
-    Some(decimal(word))
-}
-
-/// Whether each byte is a decimal digit.
-fn are_digits(word: &[u8]) -> bool
-    ensures value { result ≡ list_all is_ascii_digit word.now }
-    ensures digits { result ≡ true → AllPass is_ascii_digit word.now }
-{
-    word.iter().all(u8::is_ascii_digit)
-}
-
-/// The number of decimal digits.
-#[tactic(auto, unfolding(script_spec::specs::Text::decimal_value))]
-fn decimal(digits: &[u8]) -> u64
-    requires few { length digits.now ≤ MAX_DIGITS }
-    requires digits { AllPass is_ascii_digit digits.now }
-    ensures value { result ≡ decimal_value digits.now }
-{
     let mut value = 0;
-    for digit in digits {
+    for digit in word {
+        if !digit.is_ascii_digit() {
+            return None;
+        }
         value = value * 10 + u64::from(*digit - b'0');
     }
-    value
+    Some(value)
 }
 
 /// The mask that exactly four hex digits stand for.

@@ -1,10 +1,9 @@
 -- The first fault by the grammar's words is the fault at which reading stops.
-use Rattle.std.proofs.Common.{◌≡◌, ℕ, ◌+◌, Bool, true, false, cond, List, [], ◌∷◌, ◌++◌, length, Option, Some, None, Result, Ok, Err, refl, sym, ap, ◌∙◌, subst}
+use Rattle.std.proofs.Common.{◌≡◌, ℕ, ◌+◌, Bool, true, false, cond, List, [], ◌∷◌, ◌++◌, Option, Some, None, Result, Ok, Err, refl, sym, ap, ◌∙◌, subst}
 use Rattle.std.specs.Prelude.{is_none}
 use Rattle.std.specs.Result.{result_err}
 use Rattle.script_spec.specs.declared.Line.{Line}
 use Rattle.script_spec.specs.declared.TheConstants.{WORD_FAULT, HEADER_FAULT}
-use Rattle.script_spec.specs.Fields.{Value, Number}
 use Rattle.script_spec.specs.Script.{Action, row, action_with, Header, header_name, header_row, header_values, header_with, Script}
 use Rattle.script_spec.specs.Text.{lines_of, words_of, after_name, is_passed_over, decimal_value}
 use Rattle.script_spec.specs.Grammar.{SpellEach}

@@ -1,11 +1,11 @@
 -- What some words say in some fields, by induction over the fields.
-use Rattle.std.proofs.Common.{◌≡◌, ℕ, suc, ◌+◌, ◌==◌, Bool, true, false, cond, List, [], ◌∷◌, length, Option, Some, None, Result, Ok, Err, refl, sym, ap, ◌∙◌, subst, arith}
+use Rattle.std.proofs.Common.{◌≡◌, ℕ, suc, ◌==◌, Bool, true, false, cond, List, [], ◌∷◌, length, Option, Some, None, Result, Ok, Err, refl, sym, ap, ◌∙◌, subst, arith}
 use Rattle.std.specs.List.{All}
 use Rattle.std.specs.Result.{result_err}
 use Rattle.std.proofs.lemmas.Bool.{eqb-true, eq-eqb}
 use Rattle.std.proofs.lemmas.List.Elements.{All-nil, All-cons}
 use Rattle.script_spec.specs.declared.TheConstants.{WORD_FAULT}
-use Rattle.script_spec.specs.Fields.{Value, Form, Fits, AllFit}
+use Rattle.script_spec.specs.Fields.{Value, Form, AllFit}
 use Rattle.script_spec.specs.Script.{first_value, later_values}
 use Rattle.script_spec.specs.Grammar.{Spells, SpellEach}
 use Rattle.script_spec.specs.Fault.{first_of, words_fault, counted_fault}

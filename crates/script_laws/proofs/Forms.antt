@@ -1,7 +1,7 @@
 -- What a word says in a field of each form, what the grammar says of the word, and which words have a fault there.
 use Rattle.std.proofs.Common.{◌≡◌, ◌≢◌, ℕ, ◌+◌, ◌*◌, ◌/◌, ◌%◌, ◌<◌, ◌≤◌, ◌==◌, ◌&&◌, ◌||◌, not, nat_le, Bool, true, false, cond, List, [], ◌∷◌, length, Option, Some, None, Result, Ok, Err, refl, sym, ap, ◌∙◌, subst, arith}
 use Rattle.std.specs.Prelude.{codes, slice_index, is_some, unwrap_or}
-use Rattle.std.specs.List.{All, AllPass, list_all}
+use Rattle.std.specs.List.{AllPass, list_all}
 use Rattle.std.specs.Char.{is_ascii_digit}
 use Rattle.std.specs.Str.{bytes_eq}
 use Rattle.std.specs.Result.{result_err}
@@ -19,7 +19,7 @@ use Rattle.script_spec.specs.declared.TheConstants.{MAX_DIGITS, MAX_MASK, WORD_F
 use Rattle.script_spec.specs.Fields.{Value, Lane, Number, Bytes, lane_in, number_in, bytes_in, Form, LaneName, Decimal, MaskDigits, HexBytes, NoiseBytes, Fits, AreBytes, IsNoise}
 use Rattle.script_spec.specs.Text.{lane_text, is_numeral, is_number, decimal_value, decoded, hex_bytes, mask_value, mask_of}
 use Rattle.script_spec.specs.Grammar.{SpellsNumber, SpellsMask, SpellsBytes, IsTextOf, Spells}
-use Rattle.script_spec.specs.Fault.{is_lane, is_hex, is_mask, is_noise, unless, first_of, word_fault}
+use Rattle.script_spec.specs.Fault.{is_hex, is_mask, is_noise, unless, first_of, word_fault}
 use Rattle.script_spec.specs.Reading.{◌>>=◌, or_reason, lane_of, number_of, within, bytes_of, noise_with, noise_of, word_value}
 use Rattle.script_laws.proofs.Words.{NotSpace, IsOneWord}
 
@@ -74,8 +74,7 @@ number_spells low high word n h =
     let front = and_parts (is_numeral word && nat_le low (decimal_value word)) (nat_le (decimal_value word) high) found.0 in
     let lower = and_parts (is_numeral word) (nat_le low (decimal_value word)) front.0 in
     let digits = and_parts (nat_le 1 (length word) && nat_le (length word) MAX_DIGITS) (list_all is_ascii_digit word) lower.0 in
-    let sizes = and_parts (nat_le 1 (length word)) (nat_le (length word) MAX_DIGITS) digits.0 in
-    (
+    let sizes = and_parts (nat_le 1 (length word)) (nat_le (length word) MAX_DIGITS) digits.0 in (
       (subst (λ m. low ≤ m) found.1 (leb-true low (decimal_value word) lower.1), subst (λ m. m ≤ high) found.1 (leb-true (decimal_value word) high front.1)),
       record {
         digits = list_all-AllPass is_ascii_digit word digits.1;

@@ -9,3 +9,4 @@ pub mod Ranges
 pub mod Scripts
 pub mod FaultLaws
 pub mod Rows
+pub mod Canonical

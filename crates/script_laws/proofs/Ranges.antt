@@ -5,7 +5,7 @@ use Rattle.std.proofs.lemmas.List.Elements.{All-nil, All-cons}
 use Rattle.script_spec.specs.Script.{Action, Header, IsAction, IsHeader}
 use Rattle.script_spec.specs.Text.{words_of, is_passed_over}
 use Rattle.script_spec.specs.Reading.{◌>>=◌, line_action, event_at, on_line, as_header, header_at, events_reading, with_action}
-use Rattle.script_laws.proofs.Forms.{bind_ok, ok_same}
+use Rattle.script_laws.proofs.Forms.{bind_ok}
 use Rattle.script_laws.proofs.Texts.{text_spells, text_range, text_header, header_range}
 
 pub on_line_ok : {A : Type 0} (line : ℕ) (r : Result A ℕ) (x : A) → on_line line r ≡ Ok x → r ≡ Ok x

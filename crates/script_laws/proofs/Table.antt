@@ -8,7 +8,7 @@ use Rattle.std.proofs.lemmas.List.Elements.{All-cons}
 use Rattle.script_spec.specs.declared.Line.{Line}
 use Rattle.script_spec.specs.declared.Line.TheVariants.{Probe as probe}
 use Rattle.script_spec.specs.Fields.{Value, AllFit}
-use Rattle.script_spec.specs.Script.{Action, Probe, row, said, Said, says, action_with, all_lines}
+use Rattle.script_spec.specs.Script.{Action, Probe, row, said, says, action_with, all_lines}
 use Rattle.script_spec.specs.Text.{words_of, after_name, is_passed_over}
 use Rattle.script_spec.specs.Reading.{line_named, or_among, named_among}
 use Rattle.script_laws.proofs.Words.{IsOneWord, words_of-joined}

@@ -1,17 +1,17 @@
 -- A line's text: the words that reading finds in it, and the words of which the grammar makes it.
-use Rattle.std.proofs.Common.{◌≡◌, ℕ, ◌==◌, true, false, List, [], ◌∷◌, ◌++◌, length, inl, inr, Option, Some, None, Result, Ok, Err, refl, sym, ap, ◌∙◌, subst}
+use Rattle.std.proofs.Common.{◌≡◌, ℕ, true, false, List, [], ◌∷◌, ◌++◌, length, inl, inr, Ok, refl, sym, ap, ◌∙◌, subst}
 use Rattle.std.specs.List.{join_with_byte}
 use Rattle.std.proofs.lemmas.Bool.{eqb-true}
 use Rattle.script_spec.specs.declared.Line.{Line}
 use Rattle.script_spec.specs.declared.TheConstants.{WORD_FAULT}
-use Rattle.script_spec.specs.Fields.{Value, Number, Bytes, number_in, AllFit}
+use Rattle.script_spec.specs.Fields.{Value, Number, Bytes, number_in}
 use Rattle.script_spec.specs.Script.{Action, Row, row, said, Said, says, action_with, Header, header_name, header_row, header_values, header_with, header_size, room_field, fields_after_room, IsAction, IsHeader}
 use Rattle.script_spec.specs.Text.{words_of, after_name, is_passed_over}
 use Rattle.script_spec.specs.Grammar.{SpellEach, SpellsLine, SpellsAction, SpellsHeader, IsPassedOver}
 use Rattle.script_spec.specs.Reading.{◌>>=◌, or_reason, field_at, values_at, counted, line_named, line_at, action_at, line_action, header_at}
 use Rattle.script_laws.proofs.Words.{joined-words_of}
 use Rattle.script_laws.proofs.Forms.{bind_ok, ok_same, or_reason_ok}
-use Rattle.script_laws.proofs.Fields.{counted_ok, counted_again, values_spell, values_spelled, field_again, spell_length, each_fits, each_plain, all_formed, all_same}
+use Rattle.script_laws.proofs.Fields.{counted_ok, counted_again, values_spell, values_spelled, field_again, spell_length, each_fits, each_plain, all_same}
 use Rattle.script_laws.proofs.Table.{said_again, action_again, named_again, named_is, after_name-is, row_named, is_name, named_words, named_counts}
 
 -- ---- words of a row

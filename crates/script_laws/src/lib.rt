@@ -1,5 +1,5 @@
-//! Laws of scripts: which bytes write a script, which have a fault, and that reading from left to right finds out.
-//! Each law is the clause of a function with an empty body.
+//! Laws of scripts: which bytes write a script, which have a fault, and that reading from left to
+//! right finds out. Each law is the clause of a function with an empty body.
 #![tactic(auto)]
 
 ghost use Rattle.std.specs.Prelude.{◌≡◌, ◌⊎◌, ℕ, List, Some, None, Ok, Err};
@@ -7,6 +7,7 @@ ghost use Rattle.script_spec.specs.Script.{Script, IsScript};
 ghost use Rattle.script_spec.specs.Grammar.{Writes};
 ghost use Rattle.script_spec.specs.Fault.{fault};
 ghost use Rattle.script_spec.specs.Reading.{reading};
+ghost use Rattle.script_spec.specs.Canonical.{canonical};
 
 /// Reading gives exactly the script that the bytes write.
 pub fn reading_gives_what_is_written()
@@ -34,4 +35,10 @@ pub fn bytes_write_a_script_or_have_a_fault()
 /// The numbers and bytes of a script that some bytes write lie in their ranges.
 pub fn scripts_lie_in_their_ranges()
     ensures ranges { (bytes : List ℕ) (script : Script) → Writes script bytes → IsScript script }
+{}
+
+/// The canonical text of a script in its ranges is one of its texts, and is read as the script.
+pub fn canonical_texts_are_read()
+    ensures written { (script : Script) → IsScript script → Writes script (canonical script) }
+    ensures read { (script : Script) → IsScript script → reading (canonical script) ≡ Ok script }
 {}

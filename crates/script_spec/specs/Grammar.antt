@@ -72,8 +72,8 @@ pub data LineEnd : Type 0 where
   return_and_feed : LineEnd
   end_of_input : LineEnd
 
--- The bytes are a text, the end of its line, and a rest. A carriage return directly before the line feed belongs to
--- the end; the last line may lack its end.
+-- The bytes are a text, the end of its line, and a rest. A carriage return directly before the line
+-- feed belongs to the end; the last line may lack its end.
 abbrev pub Ends : LineEnd → List ℕ → List ℕ → List ℕ → Type 0
 Ends feed bytes text rest = (bytes ≡ text ++ (10 ∷ rest)) × ((front : List ℕ) → text ≢ front ++ (13 ∷ []))
 Ends return_and_feed bytes text rest = bytes ≡ text ++ (13 ∷ 10 ∷ rest)

@@ -4,3 +4,4 @@ pub mod Text
 pub mod Grammar
 pub mod Reading
 pub mod Fault
+pub mod Canonical

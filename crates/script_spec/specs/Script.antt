@@ -1,4 +1,5 @@
--- What a script says: a header, and what each line after it asks for, by one table of the kinds of lines.
+-- What a script says: a header, and what each line after it asks for, by one table of the kinds of
+-- lines.
 use Rattle.std.specs.Prelude.{◌≤◌, ℕ, zero, suc, List, [], ◌∷◌, length, codes}
 use Rattle.std.specs.List.{All}
 use Rattle.omci_types.specs.declared.Priority.{Priority}
@@ -149,8 +150,8 @@ IsAction action = AllFit (row (said action).line).fields (said action).values
 
 -- ---- the header, and the whole
 
--- The room of an image slot in bytes, the first numbers of the two lanes, and the image that the unit leaves the
--- factory with.
+-- The room of an image slot in bytes, the first numbers of the two lanes, and the image that the
+-- unit leaves the factory with.
 pub record Header : Type 0 where
   pub room : ℕ
   pub low : ℕ

@@ -21,8 +21,8 @@ lines_with byte rest lines =
     else if byte == 13 && starts_with_feed rest then lines
     else onto_first byte lines
 
--- The texts between line feeds. A carriage return directly before a line feed is no part of the text, and the last
--- text may lack its line feed.
+-- The texts between line feeds. A carriage return directly before a line feed is no part of the
+-- text, and the last text may lack its line feed.
 unfoldable pub lines_of : List ℕ → List (List ℕ)
 lines_of [] = []
 lines_of (byte ∷ rest) = lines_with byte rest (lines_of rest)

@@ -1,5 +1,6 @@
-//! What scripts are: one table of their lines, what each line asks for, the grammar of their bytes, and the first
-//! fault of bytes that are no script. The crate has definitions, one plain type and the limits.
+//! What scripts are: one table of their lines, what each line asks for, the grammar of their bytes,
+//! and the first fault of bytes that are no script. The crate has definitions, one plain type and
+//! the limits.
 #![tactic(auto)]
 
 /// The kinds of a script's lines, one for each row of the table.
@@ -22,6 +23,8 @@ pub enum Line {
     StartOlt,
 }
 
+/// The most bytes of a script.
+pub const MAX_SCRIPT: usize = 16_777_216;
 /// The most digits of a number.
 pub const MAX_DIGITS: usize = 18;
 /// The largest number of `MAX_DIGITS` digits: the last packet that a line may name.

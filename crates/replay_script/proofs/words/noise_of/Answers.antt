@@ -1,9 +1,8 @@
-use Rattle.std.proofs.Common.{◌≡◌, ℕ, List, Option, Some, None, Result, Ok, Err, refl, sym, ap, ◌∙◌}
+use Rattle.std.proofs.Common.{◌≡◌, ℕ, List, Option, Some, None, Ok, refl, sym, ap, ◌∙◌}
 use Rattle.omci_types.specs.declared.Frame.{Frame}
 use Rattle.frame_spec.specs.declared.FrameFault.{FrameFault}
 use Rattle.frame_spec.specs.Baseline.{fault_of, answer_of, decoded}
-use Rattle.script_spec.specs.declared.TheConstants.{HEX_FAULT, NOISE_FAULT}
-use Rattle.script_spec.specs.Reading.{◌>>=◌, or_reason, bytes_of, noise_with, noise_of}
+use Rattle.script_spec.specs.Reading.{◌>>=◌, noise_with}
 use Rattle.replay_script.proofs.words.noise_of.Goals as goal
 
 -- bytes that decode have no fault

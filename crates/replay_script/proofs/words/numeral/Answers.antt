@@ -1,6 +1,6 @@
 use Rattle.std.proofs.Common.{arith}
 use Rattle.replay_script.proofs.Numbers.{one_more_digit}
-use Rattle.replay_script.proofs.words.decimal.Goals as goal
+use Rattle.replay_script.proofs.words.numeral.Goals as goal
 
 pub overflow_mul-value : goal.overflow_mul-value
 overflow_mul-value c =
