@@ -1,6 +1,6 @@
 -- The last packets of a link, and how they are held: the first 48 bytes of each packet stand in one ring, and what a
 -- longer packet has past them in another, which has an item for each of these packets alone.
-use Rattle.std.specs.Prelude.{◌≡◌, ℕ, ◌+◌, ◌-◌, ◌<◌, ◌≤◌, ◌^◌, Bool, true, false, nat_lt, List, [], ◌∷◌, ◌++◌, length, take, drop}
+use Rattle.std.specs.Prelude.{◌≡◌, ℕ, ◌+◌, ◌-◌, ◌≤◌, ◌^◌, Bool, true, false, nat_lt, List, [], ◌∷◌, ◌++◌, length, take, drop}
 use Rattle.circular_buffer.specs.Buffer.{Buffer, buffer, keep_last}
 use Rattle.link_spec.specs.declared.TheConstants.{WINDOW}
 use Rattle.link_spec.specs.Link.{Sent, lane_of}

@@ -1,4 +1,4 @@
-use Rattle.std.proofs.Common.{◌≡◌, ◌<◌, length, ap, sym, refl, ◌∙◌, arith}
+use Rattle.std.proofs.Common.{◌≡◌, ap, refl, arith}
 use Rattle.link_lanes.proofs.Rings.{last-length, rests_fit, added_is_latest_for, added_view}
 use Rattle.link_lanes.proofs.latest.Latest.add.Goals as goal
 
