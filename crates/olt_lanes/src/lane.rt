@@ -11,7 +11,7 @@ use lane_spec::{HIGH_TIMEOUT, LOW_TIMEOUT, MOST_REPEATS};
 use omci_core::{Packet, next_number};
 use omci_frames::encode;
 use std::marker::Model;
-use tci_spec::HIGH_BIT;
+use tci_spec::FIRST_HIGH_TCI;
 
 /// AR in a type byte less AK.
 const AR_LESS_AK: u16 = 0x20;
@@ -105,7 +105,7 @@ fn tci_of(priority: Priority, number: u16) -> u16
 {
     match priority {
         Priority::Low => number,
-        Priority::High => number + HIGH_BIT,
+        Priority::High => number + FIRST_HIGH_TCI,
     }
 }
 

@@ -4,13 +4,13 @@
 #![tactic(auto)]
 
 ghost use Rattle.std.specs.Prelude.{◌≡◌, ◌≤◌, length, option_copied, IfSome, None, Some};
-ghost use Rattle.omci_core.specs.declared.packet.TheConstants.{MAX_PACKET_BYTES};
+ghost use Rattle.frame_spec.specs.declared.TheConstants.{MAX_PACKET_BYTES};
 ghost use Rattle.tci_spec.specs.Tci.{is_low};
 ghost use Rattle.retry_spec.specs.Kept.{nothing_kept, if_answers, kept_for, kept_with};
 
 use omci_core::{MAX_PACKET_BYTES, Packet};
 use std::marker::Model;
-use tci_spec::HIGH_BIT;
+use tci_spec::FIRST_HIGH_TCI;
 
 /// Room for the reply of one priority. The packet is there once a request's TCI is.
 #[derive(Drop)]
@@ -77,7 +77,7 @@ impl Model for Kept {
 fn is_low(tci: u16) -> bool
     ensures value { result ≡ is_low tci }
 {
-    tci < HIGH_BIT
+    tci < FIRST_HIGH_TCI
 }
 
 impl Kept {

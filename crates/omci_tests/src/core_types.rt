@@ -1,6 +1,11 @@
+//! The small types, arrays, sources and sinks that every part stands on.
+
 ghost use Rattle.std.specs.Prelude.{◌≤◌, IfOk};
 
-use super::*;
+use omci_core::{
+    Bytes, Failed, MemSink, MemSource, Packet, Packets, Sink, Source, StdSink, StdSource, Words,
+    filled, front_filled, next_number, put_at,
+};
 use std::io;
 use std::io::{ErrorKind, Read, Write};
 use std::test::Fail;
@@ -17,7 +22,8 @@ fn write_once<K: Sink>(sink: &mut K, piece: &[u8]) -> Result<usize, Failed> {
     sink.write(piece)
 }
 
-/// A reader and writer that takes one byte a call, fails at its second and takes nothing at its third.
+/// A reader and writer that takes one byte a call, fails at its second and takes nothing at its
+/// third.
 #[derive(Drop)]
 struct Faulty {
     calls: u8,
@@ -58,6 +64,17 @@ fn numbers_follow_one_another(rt: HostRuntime) {
         prove!(0 < n && n < 32_768);
         assert_eq!(rt; next_number(n), next, "after {n}");
     }
+}
+
+#[test]
+fn arrays_are_filled_with_zeros(rt: HostRuntime) {
+    assert_eq!(rt; filled(b"ab"), [b'a', b'b', 0, 0]);
+    assert_eq!(rt; filled(b"abcd"), *b"abcd");
+    assert_eq!(rt; front_filled(b"ab"), [b'a', b'b', 0]);
+    assert_eq!(rt; front_filled(b"abcdef"), *b"abc");
+    let mut row = *b"abcdef";
+    put_at(&mut row, 2, b"xy");
+    assert_eq!(rt; row, *b"abxyef");
 }
 
 #[test]

@@ -1,6 +1,13 @@
+//! Messages of the baseline set, both ways, and their texts.
+
 ghost use Rattle.std.specs.Prelude.{◌+◌, ◌≤◌, length};
 
-use super::*;
+use omci_contents::{
+    Code, ContentsFault, EntityId, Frame, Message, Notice, Request, Response, has_valid_window,
+    push_bytes, push_contents_text, push_hex, push_number, push_tci, push_text, read_message, text,
+    write_message,
+};
+use omci_core::filled;
 use std::test::Fail;
 
 const ENTITY: EntityId = EntityId {
@@ -55,8 +62,8 @@ fn told(notice: Notice) -> Message {
     }
 }
 
-/// What a request's type byte says over the counting contents: its name, how many of the first bytes are no padding,
-/// and the message.
+/// What a request's type byte says over the counting contents: its name, how many of the first
+/// bytes are no padding, and the message.
 fn expected_request(kind: u8) -> Option<(&'static str, usize, Message)> {
     let (name, kept, request) = match kind {
         0x44 => ("create", 32, Request::Create { values: COUNTING }),
@@ -288,14 +295,11 @@ fn a_window_is_one_more_than_its_byte(rt: HostRuntime) {
 fn frame(tci: u16, kind: u8, class: u16, instance: u16, said: &[u8]) -> Frame
     requires { length said.now ≤ 32 }
 {
-    let mut contents = [0; 32];
-    contents[..said.len()].copy_from_slice(said);
-    let entity = EntityId { class, instance };
     Frame {
         tci,
         kind,
-        entity,
-        contents,
+        entity: EntityId { class, instance },
+        contents: filled(said),
     }
 }
 
@@ -336,5 +340,30 @@ fn exchanges_have_their_texts(rt: HostRuntime) -> Result<(), Fail> {
     push_contents_text(&mut out, &[0x80, 0, 0xff, 0])?;
     push_contents_text(&mut out, &[0, 0])?;
     assert_eq!(rt; out.as_slice(), b"8000ff-".as_slice());
+    Ok(())
+}
+
+#[test]
+fn parts_of_texts_are_appended(rt: HostRuntime) -> Result<(), Fail> {
+    let mut out = Vec::new(rt.alloc());
+    push_bytes(&mut out, b"a ")?;
+    push_tci(&mut out, 0x80ff)?;
+    push_bytes(&mut out, b" ")?;
+    push_number(&mut out, 18_446_744_073_709_551_615)?;
+    push_number(&mut out, 0)?;
+    push_bytes(&mut out, b" ")?;
+    push_hex(&mut out, &[])?;
+    push_hex(&mut out, &COUNTING)?;
+    push_hex(&mut out, &COUNTING[..3])?;
+    let mut want = Vec::from_slice(rt.alloc(), b"a 80ff 184467440737095516150 ")?;
+    want.extend_from_slice(DIGITS)?;
+    want.extend_from_slice(b"010203")?;
+    assert!(rt; out == want);
+
+    let long = [0xa5; 70];
+    out.clear();
+    push_hex(&mut out, &long)?;
+    assert_eq!(rt; out.len(), 140);
+    assert!(rt; out.chunks(2).all(|two| two == b"a5".as_slice()));
     Ok(())
 }
