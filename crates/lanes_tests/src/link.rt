@@ -1,11 +1,12 @@
 //! The link.
 
-use link_lanes::{Lanes, Packet};
+use link_lanes::{Lanes, NoMemory, Packet};
+use std::alloc::Global;
 use std::test::Fail;
 
 /// A packet of this length whose TCI has the top bit where it is high, and whose other bytes are this number's last.
 fn packet(high: bool, number: u64, length: usize) -> Packet {
-    let mut bytes = [number as u8; 1_980];
+    let mut bytes = [(number % 251) as u8; 1_980];
     bytes[0] = if high { 0x80 } else { 0 };
     let mut packet = Packet::new();
     packet.put(&bytes[..length.min(1_980)]);
@@ -20,37 +21,63 @@ fn send(lanes: &mut Lanes, down: bool, packet: &Packet) -> u64 {
     lanes.send(down, packet)
 }
 
-#[test]
-fn a_delivery_passes_the_older_packets_of_its_lane(rt: HostRuntime) -> Result<(), Fail> {
-    let mut lanes = Lanes::new(rt.alloc())?;
-    assert!(rt; lanes.fresh(true, true).is_none());
-    for number in 0..4 {
-        assert_eq!(rt;
-            send(&mut lanes, true, &packet(number == 2, number, 48)),
-            number
-        );
+/// Delivers a packet, and answers whether it came and is this one.
+fn comes_as(lanes: &mut Lanes, number: u64, packet: &Packet) -> bool {
+    match lanes.deliver(number) {
+        None => false,
+        Some(delivered) => delivered.bytes() == packet.bytes(),
     }
-    assert_eq!(rt; send(&mut lanes, false, &packet(false, 4, 60)), 4);
+}
+
+/// A link with four packets down, the third of them of high priority, and one up.
+fn five_packets(alloc: Global) -> Result<Lanes, NoMemory> {
+    let mut lanes = Lanes::new(alloc)?;
+    for number in 0..4 {
+        let _number = send(&mut lanes, true, &packet(number == 2, number, 48));
+    }
+    let _number = send(&mut lanes, false, &packet(false, 4, 60));
+    Ok(lanes)
+}
+
+#[test]
+fn the_oldest_fresh_packet_is_of_an_end_that_is_on(rt: HostRuntime) -> Result<(), Fail> {
+    let lanes = five_packets(rt.alloc())?;
     assert_eq!(rt; lanes.sent(), 5);
     assert_eq!(rt; lanes.fresh(true, true), Some(0));
     assert_eq!(rt; lanes.fresh(false, true), Some(4));
-    assert!(rt; lanes.fresh(false, false).is_none());
+    assert_eq!(rt; lanes.fresh(false, false), None);
+    Ok(())
+}
 
-    assert_eq!(rt; lanes.deliver(3).map(|p| p.len()), Some(48));
-    assert!(rt; !lanes.allowed(0) && !lanes.allowed(1));
+#[test]
+fn a_delivery_passes_the_older_packets_of_its_lane(rt: HostRuntime) -> Result<(), Fail> {
+    let mut lanes = five_packets(rt.alloc())?;
+    assert!(rt; comes_as(&mut lanes, 3, &packet(false, 3, 48)));
+    for (number, may_come) in [
+        (0, false),
+        (1, false),
+        (2, true),
+        (3, true),
+        (4, true),
+        (5, false),
+    ] {
+        assert_eq!(rt; lanes.allowed(number), may_come, "at {number}");
+    }
     assert!(rt; lanes.deliver(1).is_none());
-    assert!(rt; lanes.allowed(2) && lanes.allowed(3) && lanes.allowed(4));
     assert_eq!(rt; lanes.fresh(true, true), Some(2));
-    assert_eq!(rt; lanes.deliver(2).map(|p| p.bytes()[0]), Some(0x80));
-    assert_eq!(rt; lanes.fresh(true, true), Some(4));
-    assert!(rt; lanes.fresh(true, false).is_none());
+    Ok(())
+}
 
-    // What was delivered last in its lane may come again, and isn't fresh.
-    assert!(rt; lanes.deliver(3).is_some());
-    let long = packet(false, 4, 60);
-    assert_eq!(rt; lanes.deliver(4).map(|p| p.bytes()), Some(long.bytes()));
-    assert!(rt; lanes.fresh(true, true).is_none());
-    assert!(rt; !lanes.allowed(5) && !lanes.allowed(u64::MAX));
+#[test]
+fn what_was_delivered_may_come_again_and_is_not_fresh(rt: HostRuntime) -> Result<(), Fail> {
+    let mut lanes = five_packets(rt.alloc())?;
+    assert!(rt; comes_as(&mut lanes, 3, &packet(false, 3, 48)));
+    assert!(rt; comes_as(&mut lanes, 2, &packet(true, 2, 48)));
+    assert!(rt; comes_as(&mut lanes, 3, &packet(false, 3, 48)));
+    assert_eq!(rt; lanes.fresh(true, false), None);
+    assert_eq!(rt; lanes.fresh(true, true), Some(4));
+    assert!(rt; comes_as(&mut lanes, 4, &packet(false, 4, 60)));
+    assert_eq!(rt; lanes.fresh(true, true), None);
     Ok(())
 }
 
@@ -106,13 +133,8 @@ fn the_last_packets_are_held_and_no_more(rt: HostRuntime) -> Result<(), Fail> {
             48
         };
         let sent = packet(number % 2 == 0, number, length);
-        match lanes.deliver(number) {
-            None => wrong = wrong.saturating_add(1),
-            Some(packet) => {
-                if packet.bytes() != sent.bytes() {
-                    wrong = wrong.saturating_add(1);
-                }
-            }
+        if !comes_as(&mut lanes, number, &sent) {
+            wrong = wrong.saturating_add(1);
         }
     }
     assert_eq!(rt; wrong, 0);

@@ -16,8 +16,7 @@ invariant_of-self c =
       least = c.requires.some;
       most = c.requires.most;
       size = refl;
-      whole = c.front_of.ensures.size;
-      cut = c.front_of.ensures.value;
+      cut = c.front_filled.ensures.value;
       place = refl;
     })
 
@@ -31,8 +30,7 @@ returns c =
             least = c.requires.some;
             most = c.requires.most;
             size = refl;
-            whole = c.front_of.ensures.size;
-            cut = c.front_of.ensures.value;
+            cut = c.front_filled.ensures.value;
             place = refl;
           });
     }
