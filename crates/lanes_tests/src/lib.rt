@@ -1,2 +1,9 @@
-//! Tests of the lanes, the link and the kept replies. The crate has tests alone.
+//! Tests of the kept replies, the link and the manager's lanes, called from outside. The crate has tests alone.
 #![tactic(auto)]
+
+#[cfg(test)]
+mod commands;
+#[cfg(test)]
+mod kept;
+#[cfg(test)]
+mod link;

@@ -1,12 +1,14 @@
 -- The two rings: what one more packet makes of them, what they are without their first, and where the parts of a packet
 -- stand in them.
-use Rattle.std.proofs.Common.{◌≡◌, ℕ, zero, suc, ◌+◌, ◌-◌, ◌*◌, ◌^◌, ◌<◌, ◌≤◌, min, Bool, true, false, cond, nat_lt, List, [], ◌∷◌, ◌++◌, length, take, drop, Option, Some, None, option_map, refl, sym, ap, ◌∙◌, subst, arith, length-append, add-zero}
+use Rattle.std.proofs.Common.{◌≡◌, ℕ, zero, suc, ◌+◌, ◌-◌, ◌^◌, ◌<◌, ◌≤◌, Bool, true, false, nat_lt, List, [], ◌∷◌, ◌++◌, length, take, drop, replicate, Option, Some, None, option_map, refl, sym, ap, ◌∙◌, subst, arith, length-append, add-zero}
 use Rattle.std.specs.Prelude.{slice_get}
 use Rattle.std.specs.Int.{from_be_bytes, w16}
 use Rattle.tci_spec.specs.Tci.{priority_of}
-use Rattle.std.proofs.lemmas.List.{drop-append-le, take-append-le, take-append-drop, length-take, length-drop, drop-drop, take_all, take-take}
+use Rattle.std.proofs.lemmas.List.{drop-append-le, take-append-le, take-append-drop, length-take, length-drop, drop-drop, take_at, take-take, length-replicate}
 use Rattle.std.proofs.lemmas.Bool.{ltb-true, ltb-false, lt-ltb}
 use Rattle.circular_buffer.specs.Buffer.{Buffer, buffer, keep_last}
+use Rattle.frame_spec.specs.declared.TheConstants.{MAX_PACKET_BYTES}
+use Rattle.frame_spec.specs.Widths.{front_filled}
 use Rattle.link_spec.specs.declared.TheConstants.{WINDOW}
 use Rattle.link_spec.specs.Link.{Sent, lane_of}
 use Rattle.link_lanes.specs.declared.latest.Front.{Front}
@@ -116,21 +118,24 @@ tag_of-packet f rs front = λ i. record { direction = f.direction; lane = priori
 -- ---- one more packet
 
 -- the front and the rest that were cut from a packet give it again
-rebuilt : (b : Bool) (f : Front) (bytes rest : List ℕ) → f.length ≡ length bytes → length f.bytes ≡ FRONT_LENGTH
-    → take (length (take FRONT_LENGTH bytes)) f.bytes ≡ take FRONT_LENGTH bytes
+rebuilt : (b : Bool) (f : Front) (bytes rest : List ℕ) → f.length ≡ length bytes → f.bytes ≡ front_filled FRONT_LENGTH bytes
     → (b ≡ true → FRONT_LENGTH < length bytes) → (b ≡ true → take (length bytes - FRONT_LENGTH) rest ≡ drop FRONT_LENGTH bytes)
     → (b ≡ false → length bytes ≤ FRONT_LENGTH)
     → bytes_by b f rest ≡ bytes
-rebuilt true f bytes rest size whole cut long holds short =
+rebuilt true f bytes rest size cut long holds short =
     let h = long refl in
-    let n : length (take FRONT_LENGTH bytes) ≡ FRONT_LENGTH = omega (arith, length-take FRONT_LENGTH bytes) in
-    let front : f.bytes ≡ take FRONT_LENGTH bytes =
-    sym (take_all FRONT_LENGTH f.bytes (omega arith)) ∙ ap (λ k. take k f.bytes) (sym n) ∙ cut in
+    let zeros : List ℕ = replicate (FRONT_LENGTH - length bytes) 0 in
+    let front : f.bytes ≡ take FRONT_LENGTH bytes = cut ∙ take-append-le FRONT_LENGTH bytes zeros (omega arith) in
     let tail : take (f.length - FRONT_LENGTH) rest ≡ drop FRONT_LENGTH bytes = ap (λ k. take (k - FRONT_LENGTH) rest) size ∙ holds refl in
     (λ i. front i ++ tail i) ∙ take-append-drop FRONT_LENGTH bytes
-rebuilt false f bytes rest size whole cut long holds short =
-    let all : take FRONT_LENGTH bytes ≡ bytes = take_all FRONT_LENGTH bytes (short refl) in
-    ap (λ k. take k f.bytes) (size ∙ sym (ap length all)) ∙ cut ∙ all
+rebuilt false f bytes rest size cut long holds short =
+    let zeros : List ℕ = replicate (FRONT_LENGTH - length bytes) 0 in
+    (λ i. take (size i) (cut i)) ∙ take-take (length bytes) FRONT_LENGTH (bytes ++ zeros) (short refl) ∙ take_at bytes zeros (length bytes) refl
+
+front-whole : (bytes : List ℕ) → length (front_filled FRONT_LENGTH bytes) ≡ FRONT_LENGTH
+front-whole bytes =
+    let zeros : List ℕ = replicate (FRONT_LENGTH - length bytes) 0 in
+    omega (arith, length-take FRONT_LENGTH (bytes ++ zeros), length-append bytes zeros, length-replicate {A = ℕ} (FRONT_LENGTH - length bytes) 0)
 
 pub kept_whole : {X : Type 0} (n : ℕ) (xs : List X) → length xs ≤ n → keep_last n xs ≡ xs
 kept_whole n xs h = let none : length xs - n ≡ 0 = omega arith in ap (λ k. drop k xs) none
@@ -138,10 +143,9 @@ kept_whole n xs h = let none : length xs - n ≡ 0 = omega arith in ap (λ k. dr
 -- a front that was made for these bytes when so many rests were sent
 pub record IsFrontOf (bytes : List ℕ) (rests_sent : ℕ) (f : Front) : Type 0 where
   pub least : 2 ≤ length bytes
-  pub most : length bytes ≤ 1980
+  pub most : length bytes ≤ MAX_PACKET_BYTES
   pub size : f.length ≡ length bytes
-  pub whole : length f.bytes ≡ FRONT_LENGTH
-  pub cut : take (length (take FRONT_LENGTH bytes)) f.bytes ≡ take FRONT_LENGTH bytes
+  pub cut : f.bytes ≡ front_filled FRONT_LENGTH bytes
   pub place : f.rests_before ≡ rests_sent
 
 pub added_packet : (fronts : Buffer Front) (rests after : Buffer (List ℕ)) (sent rests_sent added : ℕ) (f : Front) (bytes : List ℕ)
@@ -151,7 +155,7 @@ pub added_packet : (fronts : Buffer Front) (rests after : Buffer (List ℕ)) (se
 added_packet fronts rests after sent rests_sent added f bytes h room a of =
     let fits : length (fronts.items ++ f ∷ []) ≤ fronts.capacity = omega (arith, length-append fronts.items (f ∷ []), h.capacity) in
     let same : bytes_by (is_long f) f (first_rest a.rests) ≡ bytes =
-    rebuilt (is_long f) f bytes (first_rest a.rests) of.size of.whole of.cut
+    rebuilt (is_long f) f bytes (first_rest a.rests) of.size of.cut
     (λ long. let more = ltb-true FRONT_LENGTH f.length long in omega (arith, of.size))
     (λ long. a.holds (ap (λ k. nat_lt FRONT_LENGTH k) (sym of.size) ∙ long))
     (λ short. let less = ltb-false FRONT_LENGTH f.length short in omega (arith, of.size)) in
@@ -181,8 +185,8 @@ added_is_latest fronts rests after sent rests_sent added f bytes h room count a 
       fewer = omega (arith, h.fewer);
       each = subst AreFronts (sym kept) (AreFronts-append fronts.items f h.each (record {
         least = subst (λ n. 2 ≤ n) (sym of.size) of.least;
-        most = subst (λ n. n ≤ 1980) (sym of.size) of.most;
-        whole = of.whole;
+        most = subst (λ n. n ≤ MAX_PACKET_BYTES) (sym of.size) of.most;
+        whole = ap length of.cut ∙ front-whole bytes;
       }));
       numbered = subst (λ k. IsNumbered k (keep_last fronts.capacity (fronts.items ++ f ∷ []))) (sym before)
           (subst (IsNumbered (rests_sent - length rests.items)) (sym kept)

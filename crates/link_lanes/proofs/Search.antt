@@ -1,15 +1,14 @@
 -- Where the search for the oldest fresh packet may begin, and what both directions' searches make of one.
-use Rattle.std.proofs.Common.{◌≡◌, ℕ, zero, suc, ◌+◌, ◌-◌, ◌<◌, ◌≤◌, Bool, true, false, cond, not, ◌&&◌, nat_le, min, List, [], ◌∷◌, ◌++◌, length, drop, Option, Some, None, unwrap_or, refl, sym, ap, ◌∙◌, subst, arith, length-append, add-zero}
+use Rattle.std.proofs.Common.{◌≡◌, ℕ, zero, suc, ◌+◌, ◌-◌, ◌<◌, ◌≤◌, Bool, true, false, cond, ◌&&◌, nat_le, List, [], ◌∷◌, ◌++◌, length, drop, Option, Some, None, unwrap_or, refl, sym, ap, ◌∙◌, subst, arith, length-append, add-zero}
 use Rattle.std.specs.Prelude.{slice_get, IfSome}
-use Rattle.std.proofs.lemmas.Bool.{lt-leb, le-leb, leb-true}
+use Rattle.std.proofs.lemmas.Bool.{le-leb, leb-true}
 use Rattle.std.proofs.lemmas.List.{length-drop, drop_all}
 use Rattle.circular_buffer.specs.Buffer.{keep_last}
 use Rattle.circular_buffer.proofs.Places.{slice_get-drop, slice_get-some, slice_get-append_left}
 use Rattle.link_spec.specs.declared.TheConstants.{WINDOW}
 use Rattle.link_spec.specs.declared.Direction.{Direction}
 use Rattle.link_spec.specs.declared.Direction.TheVariants.{Down, Up}
-use Rattle.link_spec.specs.declared.Way.{Way}
-use Rattle.link_spec.specs.Link.{Sent, Ways, way_in, with_way, way_of, is_heard, is_young, may_come, is_fresh, first_fresh}
+use Rattle.link_spec.specs.Link.{Sent, Ways, way_of, is_heard, is_young, may_come, is_fresh, first_fresh}
 use Rattle.link_lanes.specs.Latest.{Latest, with_packet, first_of}
 use Rattle.link_lanes.specs.Fresh.{sooner, if_on}
 

@@ -1,15 +1,14 @@
 -- What the link's steps make of the ways, and which packets may come.
-use Rattle.std.proofs.Common.{◌≡◌, ℕ, ◌+◌, ◌-◌, ◌<◌, ◌≤◌, Bool, true, false, cond, not, nat_le, max, List, [], ◌∷◌, length, Option, Some, None, option_map, is_some, unwrap_or, ◌&&◌, refl, sym, ap, ◌∙◌, subst, arith}
+use Rattle.std.proofs.Common.{◌≡◌, ℕ, ◌+◌, ◌-◌, ◌≤◌, Bool, true, false, cond, not, nat_le, List, [], ◌∷◌, length, Option, Some, None, is_some, unwrap_or, ◌&&◌, refl, sym, ap, ◌∙◌, subst, arith}
 use Rattle.std.specs.Prelude.{slice_get}
 use Rattle.std.proofs.lemmas.Bool.{lt-leb, leb-true}
 use Rattle.omci_types.specs.declared.Priority.{Priority}
 use Rattle.omci_types.specs.declared.Priority.TheVariants.{Low, High}
-use Rattle.link_spec.specs.declared.TheConstants.{WINDOW}
 use Rattle.link_spec.specs.declared.Direction.{Direction}
 use Rattle.link_spec.specs.declared.Direction.TheVariants.{Down, Up}
 use Rattle.link_spec.specs.declared.Way.{Way}
-use Rattle.link_spec.specs.Link.{Sent, Ways, Link, count, is_down, is_heard, is_fresh, way_in, with_way, way_of, lane_of, passed, may_come, if_may_come, allowed_one, first_fresh, ways_from, ways_past}
-use Rattle.link_spec.specs.Held.{Held, held_of, held_sent, held_fresh, first_held, held_packet, held_allowed, held_carried, held_after}
+use Rattle.link_spec.specs.Link.{Sent, Ways, Link, count, is_down, is_heard, is_fresh, way_in, with_way, way_of, lane_of, passed, may_come, if_may_come, allowed_one, first_fresh, ways_from}
+use Rattle.link_spec.specs.Held.{Held, held_of, held_sent, held_fresh, first_held, held_allowed, held_carried, held_after}
 use Rattle.link_lanes.specs.declared.ways.Tag.{Tag}
 use Rattle.link_lanes.specs.Latest.{Latest, first_of, with_packet}
 use Rattle.link_lanes.specs.Fresh.{held_as, fresh_in, if_on, sooner, Skips, IsLink}

@@ -1,7 +1,8 @@
 -- The last packets of a link, and how they are held: the first 48 bytes of each packet stand in one ring, and what a
 -- longer packet has past them in another, which has an item for each of these packets alone.
-use Rattle.std.specs.Prelude.{◌≡◌, ℕ, ◌+◌, ◌-◌, ◌<◌, ◌≤◌, ◌^◌, Bool, true, false, nat_lt, List, [], ◌∷◌, ◌++◌, length, take, drop}
+use Rattle.std.specs.Prelude.{◌≡◌, ℕ, ◌+◌, ◌-◌, ◌≤◌, ◌^◌, Bool, true, false, nat_lt, List, [], ◌∷◌, ◌++◌, length, take, drop}
 use Rattle.circular_buffer.specs.Buffer.{Buffer, buffer, keep_last}
+use Rattle.frame_spec.specs.declared.TheConstants.{MAX_PACKET_BYTES}
 use Rattle.link_spec.specs.declared.TheConstants.{WINDOW}
 use Rattle.link_spec.specs.Link.{Sent, lane_of}
 use Rattle.link_lanes.specs.declared.latest.Front.{Front}
@@ -75,7 +76,7 @@ IsNumbered k (f ∷ fs) = (f.rests_before ≡ k) × IsNumbered (k + rests_of f) 
 
 pub record IsFront (f : Front) : Type 0 where
   pub least : 2 ≤ f.length
-  pub most : f.length ≤ 1980
+  pub most : f.length ≤ MAX_PACKET_BYTES
   pub whole : length f.bytes ≡ FRONT_LENGTH
 
 abbrev pub AreFronts : List Front → Type 0

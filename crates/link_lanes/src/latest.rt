@@ -2,7 +2,7 @@
 //! which have no more, touch 64 bytes each of the memory that is taken at the start.
 
 ghost use Rattle.std.specs.Prelude.{◌≡◌, ◌+◌, ◌-◌, ◌<◌, ◌≤◌, ◌^◌, length, take, drop, true, slice_get, option_map, Some, IfOk};
-ghost use Rattle.omci_types.specs.declared.Priority.{Priority};
+ghost use Rattle.frame_spec.specs.declared.TheConstants.{MAX_PACKET_BYTES};
 ghost use Rattle.tci_spec.specs.Tci.{priority_of, packet_tci};
 ghost use Rattle.link_spec.specs.Link.{lane_of};
 ghost use Rattle.circular_buffer.specs.Buffer.{buffer};
@@ -10,14 +10,15 @@ ghost use Rattle.link_lanes.specs.Latest.{AddsRest, is_long, rests_of, packet_of
 
 use crate::ways::Tag;
 use circular_buffer::HeapCircularBuffer;
+use frame_spec::FRAME_BYTES;
 use link_spec::{Direction, WINDOW};
-use omci_core::{MAX_PACKET_BYTES, NoMemory, Packet, Priority};
+use omci_core::{MAX_PACKET_BYTES, NoMemory, Packet, Priority, filled, front_filled};
 use std::alloc::Global;
 use std::marker::Model;
 use tci_spec::FIRST_HIGH_TCI;
 
 /// So many bytes of each packet stand together: all of a baseline frame.
-pub(crate) const FRONT_LENGTH: usize = 48;
+pub(crate) const FRONT_LENGTH: usize = FRAME_BYTES;
 
 /// The most bytes that a packet has past them.
 const REST_LENGTH: usize = MAX_PACKET_BYTES - FRONT_LENGTH;
@@ -55,37 +56,6 @@ impl Model for Latest {
     ghost invariant = { λ l. spec.IsLatest l.fronts l.rests l.sent l.rests_sent };
 }
 
-/// Writes the bytes to the front of `into`.
-fn copy_front(bytes: &[u8], into: &mut [u8])
-    requires { length bytes.now ≤ length into.old }
-    ensures front { take (length bytes.now) into.new ≡ bytes.now }
-    ensures size { length into.new ≡ length into.old }
-{
-    into[..bytes.len()].copy_from_slice(bytes);
-}
-
-/// The first 48 bytes, or all where there are fewer.
-fn head(bytes: &[u8]) -> &[u8]
-    ensures value { result.now ≡ take FRONT_LENGTH bytes.now }
-    ensures bound { length result.now ≤ FRONT_LENGTH }
-{
-    if bytes.len() > FRONT_LENGTH {
-        &bytes[..FRONT_LENGTH]
-    } else {
-        bytes
-    }
-}
-
-/// The first 48 bytes, and zeros where there are fewer.
-fn front_of(bytes: &[u8]) -> [u8; FRONT_LENGTH]
-    ensures value { take (length (take FRONT_LENGTH bytes.now)) result ≡ take FRONT_LENGTH bytes.now }
-    ensures size { length result ≡ FRONT_LENGTH }
-{
-    let mut front = [0; FRONT_LENGTH];
-    copy_front(head(bytes), &mut front);
-    front
-}
-
 /// What follows the first 48 bytes.
 fn tail(bytes: &[u8]) -> &[u8]
     requires { FRONT_LENGTH ≤ length bytes.now }
@@ -98,17 +68,15 @@ fn tail(bytes: &[u8]) -> &[u8]
 /// What follows the first 48 bytes, and zeros.
 fn rest_of(bytes: &[u8]) -> [u8; REST_LENGTH]
     requires long { FRONT_LENGTH ≤ length bytes.now }
-    requires most { length bytes.now ≤ 1980 }
+    requires most { length bytes.now ≤ MAX_PACKET_BYTES }
     ensures value { take (length bytes.now - FRONT_LENGTH) result ≡ drop FRONT_LENGTH bytes.now }
 {
-    let mut rest = [0; REST_LENGTH];
-    copy_front(tail(bytes), &mut rest);
-    rest
+    filled(tail(bytes))
 }
 
 /// Adds the rest of a packet, where it has one, and answers how many were added.
 fn push_rest(rests: &mut HeapCircularBuffer<[u8; REST_LENGTH]>, bytes: &[u8]) -> u64
-    requires most { length bytes.now ≤ 1980 }
+    requires most { length bytes.now ≤ MAX_PACKET_BYTES }
     requires room { length rests.old.items < rests.old.capacity }
     ensures added { AddsRest bytes.now rests.old rests.new result }
 {
@@ -131,7 +99,7 @@ fn pop_rest(rests: &mut HeapCircularBuffer<[u8; REST_LENGTH]>, packet: &Front)
 
 /// The first bytes of a rest.
 fn part(rest: &[u8; REST_LENGTH], count: usize) -> &[u8]
-    requires { count ≤ 1932 }
+    requires { count ≤ REST_LENGTH }
     ensures value { result.now ≡ take count rest.now }
     ensures size { length result.now ≡ count }
 {
@@ -145,7 +113,7 @@ fn copy_packet(
     place: usize,
     into: &mut Packet,
 )
-    requires most { front.now.length ≤ 1980 }
+    requires most { front.now.length ≤ MAX_PACKET_BYTES }
     requires rest { is_long front.now ≡ true → place < length rests.now.items }
     ensures value { into.new ≡ (packet_of front.now (drop place rests.now.items)).bytes }
 {
@@ -211,7 +179,7 @@ impl Latest {
     /// Adds a packet. The first one goes where as many are held as may be.
     pub(crate) fn push(&mut self, direction: Direction, bytes: &[u8])
         requires some { 2 ≤ length bytes.now }
-        requires most { length bytes.now ≤ 1980 }
+        requires most { length bytes.now ≤ MAX_PACKET_BYTES }
         requires countable { self.old.count < 2 ^ 63 }
         ensures value { self.new ≡ with_packet (record { direction = direction; bytes = bytes.now }) self.old }
     {
@@ -234,7 +202,7 @@ impl Latest {
     /// Adds a packet, for which there is room.
     fn add(&mut self, direction: Direction, bytes: &[u8])
         requires some { 2 ≤ length bytes.now }
-        requires most { length bytes.now ≤ 1980 }
+        requires most { length bytes.now ≤ MAX_PACKET_BYTES }
         requires countable { self.old.count < 2 ^ 63 }
         requires room { length self.old.last < WINDOW }
         ensures value { self.new ≡ added (record { direction = direction; bytes = bytes.now }) self.old }
@@ -243,7 +211,7 @@ impl Latest {
             direction,
             length: bytes.len() as u16,
             rests_before: self.rests_sent,
-            bytes: front_of(bytes),
+            bytes: front_filled(bytes),
         };
         self.rests_sent += push_rest(&mut self.rests, bytes);
         self.fronts.push_back(front);

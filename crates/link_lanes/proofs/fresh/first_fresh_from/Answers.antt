@@ -1,4 +1,4 @@
-use Rattle.std.proofs.Common.{◌≡◌, ◌+◌, Some, not, ap, sym, ◌∙◌, arith}
+use Rattle.std.proofs.Common.{◌+◌, Some, not, ap, sym, ◌∙◌, arith}
 use Rattle.link_spec.specs.Link.{is_down}
 use Rattle.link_lanes.specs.Latest.{first_of}
 use Rattle.link_lanes.proofs.Search.{fresh_here, fresh_later}

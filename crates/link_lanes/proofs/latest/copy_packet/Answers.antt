@@ -1,4 +1,4 @@
-use Rattle.std.proofs.Common.{◌≡◌, ◌++◌, ap, sym, ◌∙◌, arith}
+use Rattle.std.proofs.Common.{◌++◌, ◌∙◌}
 use Rattle.std.proofs.lemmas.Bool.{lt-ltb}
 use Rattle.link_lanes.proofs.Rings.{long_bytes, absent}
 use Rattle.link_lanes.specs.declared.latest.TheConstants.{FRONT_LENGTH}

@@ -1,4 +1,4 @@
-use Rattle.std.proofs.Common.{◌≡◌, ◌-◌, length, drop, arith}
+use Rattle.std.proofs.Common.{◌-◌, length, drop, arith}
 use Rattle.std.proofs.lemmas.List.{length-drop, take_all}
 use Rattle.link_lanes.proofs.latest.tail.Goals as goal
 

@@ -1,4 +1,4 @@
-use Rattle.std.proofs.Common.{◌≡◌, ap, ◌∙◌}
+use Rattle.std.proofs.Common.{ap, ◌∙◌}
 use Rattle.link_spec.specs.Held.{Held}
 use Rattle.link_lanes.proofs.Steps.{held_of-count}
 use Rattle.link_lanes.proofs.lanes.Lanes.sent.Goals as goal

@@ -1,4 +1,4 @@
-use Rattle.std.proofs.Common.{◌≡◌, ◌<◌, length, ap, sym, refl, ◌∙◌, arith}
+use Rattle.std.proofs.Common.{◌≡◌, ap, refl, arith}
 use Rattle.link_lanes.proofs.Rings.{last-length, rests_fit, added_is_latest_for, added_view}
 use Rattle.link_lanes.proofs.latest.Latest.add.Goals as goal
 
@@ -16,8 +16,7 @@ invariant_of-self c =
       least = c.requires.some;
       most = c.requires.most;
       size = refl;
-      whole = c.front_of.ensures.size;
-      cut = c.front_of.ensures.value;
+      cut = c.front_filled.ensures.value;
       place = refl;
     })
 
@@ -31,8 +30,7 @@ returns c =
             least = c.requires.some;
             most = c.requires.most;
             size = refl;
-            whole = c.front_of.ensures.size;
-            cut = c.front_of.ensures.value;
+            cut = c.front_filled.ensures.value;
             place = refl;
           });
     }

@@ -1,4 +1,4 @@
-use Rattle.std.proofs.Common.{◌≡◌, ◌-◌, length, ap, sym, ◌∙◌, arith, subst, ◌<◌}
+use Rattle.std.proofs.Common.{◌-◌, ap, arith}
 use Rattle.link_lanes.proofs.Rings.{stands_in, copied, absent, last-length}
 use Rattle.link_lanes.proofs.latest.Latest.copy.Goals as goal
 

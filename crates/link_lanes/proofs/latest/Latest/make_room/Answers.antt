@@ -1,4 +1,4 @@
-use Rattle.std.proofs.Common.{◌≡◌, ◌<◌, length, ap, sym, ◌∙◌, arith}
+use Rattle.std.proofs.Common.{arith}
 use Rattle.link_lanes.proofs.Rings.{with_room-whole, last-length, room_is_latest_for, room_view}
 use Rattle.link_lanes.proofs.latest.Latest.make_room.Goals as goal
 

@@ -1,4 +1,4 @@
-use Rattle.std.proofs.Common.{◌≡◌, Some, ap, ◌∙◌}
+use Rattle.std.proofs.Common.{Some, ap, ◌∙◌}
 use Rattle.link_lanes.proofs.Rings.{tag_none, tag_some}
 use Rattle.link_lanes.proofs.latest.Latest.tag.Goals as goal
 
