@@ -35,13 +35,13 @@ abbrev pub c : ℕ → Shape
 c width = record { width = width; written = true; created = true }
 
 -- the attributes of these shapes, the first with this number
-abbrev pub numbered : ℕ → List Shape → List Attribute
-numbered number [] = []
-numbered number (shape ∷ shapes) =
-    record { number = number; width = shape.width; written = shape.written; created = shape.created } ∷ numbered (number + 1) shapes
+abbrev pub attributes_from : ℕ → List Shape → List Attribute
+attributes_from number [] = []
+attributes_from number (shape ∷ shapes) =
+    record { number = number; width = shape.width; written = shape.written; created = shape.created } ∷ attributes_from (number + 1) shapes
 
 abbrev pub row : ℕ → Maker → List Shape → Row
-row number maker shapes = record { number = number; maker = maker; attributes = numbered 1 shapes }
+row number maker shapes = record { number = number; maker = maker; attributes = attributes_from 1 shapes }
 
 -- ONU data, software image, PPTP Ethernet UNI, MAC bridge service profile, MAC bridge port configuration data, VLAN tagging
 -- filter data, 802.1p mapper service profile, ONU-G, ONU2-G, T-CONT, GEM interworking termination point, GEM port network

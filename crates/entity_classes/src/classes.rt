@@ -1,7 +1,7 @@
 //! A class of the profile, and its attributes.
 
-ghost use Rattle.std.specs.Prelude.{◌≡◌, ◌-◌, ◌<◌, ◌≤◌, ◌↔◌, length, slice_get, option_map, IsSome, IfSome};
-ghost use Rattle.class_spec.specs.Classes.{attribute_in};
+ghost use Rattle.std.specs.Prelude.{◌≡◌, ◌-◌, ◌<◌, ◌≤◌, ◌↔◌, true, length, slice_get, option_map, IsSome, IfSome, Some};
+ghost use Rattle.class_spec.specs.Classes.{Attribute as Listed, attribute_in};
 
 use crate::access::Access;
 use crate::kinds::{Kind, shape_at, shapes};
@@ -38,7 +38,7 @@ impl Model for Class {
 
 impl Class {
     ghost use Rattle.entity_classes.specs.Kinds.{row_of};
-    ghost use Rattle.entity_classes.specs.Rule.{IsRow, attribute_of};
+    ghost use Rattle.entity_classes.specs.Rule.{IsRow, attribute_of, allows};
 
     pub(crate) fn of(kind: Kind) -> Class
         ensures { result ≡ row_of kind }
@@ -90,13 +90,19 @@ impl Class {
         shapes(self.kind).len() as u8
     }
 
-    /// The attribute of this number. None exactly where the number is 0 or above `count`.
+    /// The attribute of this number. None exactly where the number is 0 or above `count`. Its access contains `WRITE` exactly where the
+    /// attribute may be written, and `SET_BY_CREATE` exactly where a create sets it. It takes no memory.
     pub fn attribute(&self, number: u8) -> Option<Attribute>
         ensures value { result ≡ option_map attribute_of (attribute_in self.now.attributes number) }
         ensures place { 0 < number
             → result ≡ option_map attribute_of (slice_get self.now.attributes (number - 1)) }
         ensures there { IsSome result ↔ ((0 < number) × (number ≤ length self.now.attributes)) }
         ensures numbered { IfSome result (λ attribute. attribute.number ≡ number) }
+        ensures read { IfSome result (λ attribute. allows attribute.access Access.READ ≡ true) }
+        ensures written { (one : Listed) → attribute_in self.now.attributes number ≡ Some one
+            → IfSome result (λ attribute. allows attribute.access Access.WRITE ≡ one.written) }
+        ensures created { (one : Listed) → attribute_in self.now.attributes number ≡ Some one
+            → IfSome result (λ attribute. allows attribute.access Access.SET_BY_CREATE ≡ one.created) }
         ensures rule { IsRow self.now }
     {
         let shapes = shapes(self.kind);

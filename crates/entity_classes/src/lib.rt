@@ -10,6 +10,3 @@ pub use access::Access;
 pub use class_spec::Maker;
 pub use classes::{Attribute, Class};
 pub use lookup::class;
-
-#[cfg(test)]
-mod tests;
