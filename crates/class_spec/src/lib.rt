@@ -2,6 +2,8 @@
 //! definitions alone.
 #![tactic(auto)]
 
+use omci_types::EntityId;
+
 /// Who makes the instances of a class (ITU-T G.988, clause 9): the unit by itself, or the manager by a create.
 #[derive(Clone, Copy, Debug, PartialEq, Eq)]
 pub enum Maker {
@@ -28,3 +30,9 @@ pub const SET_ROOM: usize = 30;
 
 /// The bytes of values that a baseline response to a get carries.
 pub const GET_ROOM: usize = 25;
+
+/// ONU data, the one instance of its class. Its attribute 1, MIB data sync, is the counter of the unit's database.
+pub const ONU_DATA: EntityId = EntityId {
+    class: 2,
+    instance: 0,
+};

@@ -5,7 +5,7 @@ ghost use Rattle.class_spec.specs.Classes.{Attribute as Listed, attribute_in};
 
 use crate::access::Access;
 use crate::kinds::{Kind, shape_at, shapes};
-use class_spec::Maker;
+use class_spec::{Maker, WIDEST_CLASS};
 use std::marker::Model;
 
 /// An attribute of a class: its number from 1 on, its width in bytes, and the manager's rights on it.
@@ -38,7 +38,7 @@ impl Model for Class {
 
 impl Class {
     ghost use Rattle.entity_classes.specs.Kinds.{row_of};
-    ghost use Rattle.entity_classes.specs.Rule.{IsRow, attribute_of, allows};
+    ghost use Rattle.entity_classes.specs.Rule.{IsRow, attribute_of, allows, whole_width};
 
     pub(crate) fn of(kind: Kind) -> Class
         ensures { result ≡ row_of kind }
@@ -88,6 +88,29 @@ impl Class {
         ensures rule { IsRow self.now }
     {
         shapes(self.kind).len() as u8
+    }
+
+    /// The bytes of the values of all attributes together.
+    #[tactic(auto, unfolding(crate::specs::Kinds::row_of, class_spec::specs::Classes::class_row, class_spec::specs::Classes::class_table))]
+    pub fn width(&self) -> usize
+        ensures width { result ≡ whole_width self.now.attributes }
+        ensures most { result ≤ WIDEST_CLASS }
+    {
+        match self.kind {
+            Kind::OnuData => 1,
+            Kind::SoftwareImage => 17,
+            Kind::EthernetUni => 13,
+            Kind::BridgeService => 17,
+            Kind::BridgePort => 24,
+            Kind::VlanFilter => 26,
+            Kind::Mapper => 45,
+            Kind::OnuG => 31,
+            Kind::Onu2G => 31,
+            Kind::TCont => 4,
+            Kind::GemInterworking => 12,
+            Kind::GemPort => 13,
+            Kind::GalEthernet => 2,
+        }
     }
 
     /// The attribute of this number. None exactly where the number is 0 or above `count`. Its access contains `WRITE` exactly where the

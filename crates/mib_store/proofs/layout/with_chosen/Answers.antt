@@ -2,7 +2,7 @@ use Rattle.std.proofs.Common.{◌≤◌, ◌+◌, List, ℕ, length, drop, subst
 use Rattle.class_spec.specs.Masks.{width_where}
 use Rattle.mib_store.specs.Layout.{picks}
 use Rattle.mib_store.proofs.Bytes.{Puts, whole_goes, written_step, put_goes, written_end}
-use Rattle.mib_store.proofs.layout.written.Goals as goal
+use Rattle.mib_store.proofs.layout.with_chosen.Goals as goal
 
 pub loop-place-preserved : goal.loop-place-preserved
 loop-place-preserved c =

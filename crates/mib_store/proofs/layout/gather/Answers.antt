@@ -3,7 +3,7 @@ use Rattle.class_spec.specs.Masks.{width_where}
 use Rattle.entity_classes.specs.Rule.{whole_width}
 use Rattle.mib_store.specs.Layout.{picks}
 use Rattle.mib_store.proofs.Bytes.{Puts, whole_goes, gathered_step, gathered_width, gathered_rest, gathered_end}
-use Rattle.mib_store.proofs.layout.gathered.Goals as goal
+use Rattle.mib_store.proofs.layout.gather.Goals as goal
 
 pub loop-place-preserved : goal.loop-place-preserved
 loop-place-preserved c =
