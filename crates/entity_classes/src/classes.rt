@@ -1,6 +1,7 @@
 //! A class of the profile, and its attributes.
 
-ghost use Rattle.std.specs.Prelude.{◌≡◌, ◌-◌, ◌<◌, ◌≤◌, ◌↔◌, true, length, slice_get, option_map, IsSome, IfSome, Some};
+ghost use Rattle.std.specs.Prelude.{◌≡◌, ◌-◌, ◌<◌, ◌≤◌, ◌↔◌, true, length, slice_get, option_map};
+ghost use Rattle.std.specs.Prelude.{IsSome, IfSome, Some};
 ghost use Rattle.class_spec.specs.Classes.{Attribute as Listed, attribute_in};
 
 use crate::access::Access;
@@ -8,7 +9,8 @@ use crate::kinds::{Kind, shape_at, shapes};
 use class_spec::{Maker, WIDEST_CLASS};
 use std::marker::Model;
 
-/// An attribute of a class: its number from 1 on, its width in bytes, and the manager's rights on it.
+/// An attribute of a class: its number from 1 on, its width in bytes, and the manager's rights on
+/// it.
 #[derive(Clone, Copy, Debug, PartialEq, Eq)]
 pub struct Attribute {
     pub number: u8,
@@ -16,8 +18,8 @@ pub struct Attribute {
     pub access: Access,
 }
 
-/// A class of the profile. Its attributes are numbered from 1 without gaps, each has 1 to 25 bytes, and those that a create sets have at
-/// most 32 bytes together.
+/// A class of the profile. Its attributes are numbered from 1 without gaps, each has 1 to 25 bytes,
+/// and those that a create sets have at most 32 bytes together.
 #[derive(Clone, Copy, Debug)]
 pub struct Class {
     kind: Kind,
@@ -113,8 +115,9 @@ impl Class {
         }
     }
 
-    /// The attribute of this number. None exactly where the number is 0 or above `count`. Its access contains `WRITE` exactly where the
-    /// attribute may be written, and `SET_BY_CREATE` exactly where a create sets it. It takes no memory.
+    /// The attribute of this number. None exactly where the number is 0 or above `count`. Its
+    /// access contains `WRITE` exactly where the attribute may be written, and `SET_BY_CREATE`
+    /// exactly where a create sets it. It takes no memory.
     pub fn attribute(&self, number: u8) -> Option<Attribute>
         ensures value { result ≡ option_map attribute_of (attribute_in self.now.attributes number) }
         ensures place { 0 < number
@@ -125,7 +128,8 @@ impl Class {
         ensures written { (one : Listed) → attribute_in self.now.attributes number ≡ Some one
             → IfSome result (λ attribute. allows attribute.access Access.WRITE ≡ one.written) }
         ensures created { (one : Listed) → attribute_in self.now.attributes number ≡ Some one
-            → IfSome result (λ attribute. allows attribute.access Access.SET_BY_CREATE ≡ one.created) }
+            → IfSome result
+            (λ attribute. allows attribute.access Access.SET_BY_CREATE ≡ one.created) }
         ensures rule { IsRow self.now }
     {
         let shapes = shapes(self.kind);

@@ -1,20 +1,16 @@
 -- The counter grows where a request has its effect, and the entities that the unit made stay.
-use Rattle.std.proofs.Common.{◌≡◌, ◌≢◌, ℕ, Bool, true, false, cond, List, [], ◌∷◌, length, Option, Some, None, option_map, is_some, Ordering, refl, sym, ap, subst, ◌∙◌, arith}
-use Rattle.std.specs.Prelude.{◌&&◌, ◌==◌, not, nat_le}
-use Rattle.std.specs.declared.cmp.Ordering.TheVariants.{Less, Equal, Greater}
+use Rattle.std.proofs.Common.{◌≡◌, ◌≢◌, ℕ, Bool, true, false, cond, List, [], ◌∷◌, length, Option, Some, option_map, is_some, refl, sym, ap, ◌∙◌, arith}
+use Rattle.std.specs.Prelude.{◌==◌, not, nat_le}
 use Rattle.std.specs.Map.{lookup, set_value}
-use Rattle.std.specs.List.{list_all}
 use Rattle.std.specs.Option.{option_map_or}
 use Rattle.std.proofs.lemmas.Bool.{false≢true}
 use Rattle.omci_types.specs.declared.EntityId.{EntityId}
-use Rattle.omci_types.specs.declared.Software.{Software}
-use Rattle.class_spec.specs.declared.Maker.{Maker}
 use Rattle.class_spec.specs.declared.TheConstants.{ONU_DATA}
 use Rattle.class_spec.specs.Classes.{class_row, class_table}
 use Rattle.mib_spec.specs.declared.TheConstants.{MOST_ENTITIES}
-use Rattle.mib_spec.specs.Database.{Database, Managed, Values, entity_cmp, managed_of, is_held, with_entity, without_entity, with_values, values_of, zeros_of, value_at, with_value, byte_of, counter, with_counter, with_counter_grown, bump, with_software, image_entity, image_values, unit_entities, is_by_unit, is_made_by_unit, has_unit_entities, first_with, first}
-use Rattle.mib_spec.specs.Requests.{first_code, unless_refused, is_class, is_unit_made, new_entity, create_code, create_outcome, delete_code, delete_outcome, set_effect, set_values, set_outcome, set_code, is_counter_set, reset, sense_outcome, may_sense, is_sensed}
-use Rattle.mib_laws.proofs.Others.{entity_exact, other_with_entity, other_without_entity, other_with_values, here_with_values}
+use Rattle.mib_spec.specs.Database.{Database, Managed, Values, managed_of, is_held, with_entity, without_entity, values_of, zeros_of, value_at, with_value, byte_of, counter, with_counter, with_counter_grown, bump}
+use Rattle.mib_spec.specs.Requests.{first_code, unless_refused, is_class, is_unit_made, new_entity, create_code, create_outcome, delete_code, delete_outcome}
+use Rattle.mib_laws.proofs.Others.{other_with_entity, other_without_entity, here_with_values}
 use Rattle.mib_laws.specs.Counted.{IsCounted, revalue}
 
 pub counted_same : (after before : Database) → IsCounted before → managed_of ONU_DATA after ≡ managed_of ONU_DATA before → IsCounted after

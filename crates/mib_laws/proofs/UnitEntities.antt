@@ -1,5 +1,5 @@
 -- The entities that the unit made stay through every request.
-use Rattle.std.proofs.Common.{◌≡◌, ◌≢◌, ℕ, zero, suc, Bool, true, false, cond, List, [], ◌∷◌, Option, Some, None, option_map, is_some, Ordering, refl, sym, ap, subst, ◌∙◌, arith}
+use Rattle.std.proofs.Common.{◌≡◌, ◌≢◌, ℕ, Bool, true, false, cond, List, [], ◌∷◌, Option, Some, None, option_map, Ordering, refl, sym, ap, subst, ◌∙◌, arith}
 use Rattle.std.proofs.lemmas.Bool.Decides.{nat_tests}
 use Rattle.std.specs.Prelude.{◌&&◌, ◌==◌, not}
 use Rattle.std.specs.declared.cmp.Ordering.TheVariants.{Less, Equal, Greater}
@@ -10,12 +10,11 @@ use Rattle.std.specs.Option.{option_map_or}
 use Rattle.std.proofs.lemmas.Bool.{false≢true}
 use Rattle.omci_types.specs.declared.EntityId.{EntityId}
 use Rattle.omci_types.specs.declared.Software.{Software}
-use Rattle.class_spec.specs.declared.Maker.{Maker}
 use Rattle.class_spec.specs.declared.TheConstants.{ONU_DATA}
 use Rattle.class_spec.specs.Classes.{class_row, class_table}
 use Rattle.mib_spec.specs.declared.Sensed.{Sensed}
 use Rattle.mib_spec.specs.declared.Sensed.TheVariants.{NotAllowed, Same, Changed}
-use Rattle.mib_spec.specs.Database.{Database, Managed, Values, entity_cmp, managed_of, with_entity, without_entity, with_values, values_of, value_at, with_value, counter, with_counter, with_counter_grown, bump, with_software, image_entity, image_values, unit_entities, is_by_unit, is_made_by_unit, has_unit_entities, first_with, first}
+use Rattle.mib_spec.specs.Database.{Database, Managed, Values, entity_cmp, managed_of, with_entity, without_entity, with_values, values_of, with_value, counter, with_counter, with_counter_grown, bump, with_software, image_entity, image_values, unit_entities, is_by_unit, is_made_by_unit, has_unit_entities, first_with}
 use Rattle.mib_spec.specs.Requests.{unless_refused, is_unit_made, new_entity, create_code, create_outcome, delete_code, delete_outcome, set_effect, set_values, set_outcome, set_code, is_counter_set, reset, sense_outcome, may_sense, is_sensed}
 use Rattle.mib_laws.proofs.Others.{entity_total, entity_exact, other_with_entity, other_without_entity, other_with_values, here_with_values}
 use Rattle.mib_laws.specs.Counted.{revalue}

@@ -1,5 +1,5 @@
 -- Databases and numbers of the profile's rows.
-use Rattle.std.specs.Prelude.{ℕ, [], ◌∷◌, Some, None, replicate, length}
+use Rattle.std.specs.Prelude.{ℕ, ◌∷◌, Some, None, replicate, length}
 use Rattle.std.specs.Option.{option_map_or}
 use Rattle.omci_types.specs.declared.Software.{Software}
 use Rattle.class_spec.specs.Classes.{Row, class_row}

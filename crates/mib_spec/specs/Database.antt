@@ -1,4 +1,5 @@
--- The unit's database (ITU-T G.988, clause 9.1.3): a finite map from entity to its maker and to a finite map from attribute number to bytes.
+-- The unit's database (ITU-T G.988, clause 9.1.3): a finite map from entity to its maker and to a
+-- finite map from attribute number to bytes.
 use Rattle.std.specs.Prelude.{ℕ, ◌+◌, ◌==◌, List, [], ◌∷◌, ◌++◌, Option, Some, None, if◌then◌else◌, replicate, codes, map, Bool, true, false, is_some}
 use Rattle.std.specs.List.{list_all}
 use Rattle.std.specs.Option.{option_map_or}
@@ -108,7 +109,8 @@ slot number software = if number == 0 then software.first else software.second
 abbrev pub flag : Bool → List ℕ
 flag on = (if on then 1 else 0) ∷ []
 
--- a software image's version, whether it is committed, whether it is active, and whether it is valid
+-- a software image's version, whether it is committed, whether it is active, and whether it is
+-- valid
 unfoldable pub image_values : ℕ → Software → Values
 image_values number software =
     (1, option_map_or (λ view. view.version) (slot number software) (replicate 14 0)) ∷

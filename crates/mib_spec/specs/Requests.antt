@@ -1,4 +1,5 @@
--- What each request does to the database (ITU-T G.988, clause 11.2.5 and annex A, in this profile): its conditions in order, then its effect.
+-- What each request does to the database (ITU-T G.988, clause 11.2.5 and annex A, in this profile):
+-- its conditions in order, then its effect.
 use Rattle.std.specs.Prelude.{ℕ, ◌-◌, ◌==◌, ◌&&◌, ◌||◌, not, Bool, true, false, nat_lt, nat_le, List, [], ◌∷◌, ◌++◌, length, take, drop, replicate, if◌then◌else◌, is_some, bytes_eq}
 use Rattle.std.specs.Option.{option_map_or}
 use Rattle.omci_types.specs.declared.EntityId.{EntityId}
@@ -28,7 +29,8 @@ is_class number = is_some (class_row number)
 abbrev pub is_unit_made : ℕ → Bool
 is_unit_made number = option_map_or (λ row. is_by_unit row.maker) (class_row number) false
 
--- create: a value for each attribute, in attribute order. Those that a create sets are cut from the given bytes, and the others are zero
+-- create: a value for each attribute, in attribute order. Those that a create sets are cut from the
+-- given bytes, and the others are zero
 abbrev pub create_values : List Attribute → List ℕ → Values
 create_values [] given = []
 create_values (one ∷ rest) given =
@@ -67,11 +69,13 @@ delete_outcome one database =
     let code = delete_code one database in
     (code, unless_refused code (with_counter_grown (without_entity one database)) database)
 
--- of a class and a mask: the known attributes, the unknown ones, those that may not be written, and the bytes of the known ones
+-- of a class and a mask: the known attributes, the unknown ones, those that may not be written, and
+-- the bytes of the known ones
 abbrev pub of_class : (Row → ℕ → ℕ) → ℕ → ℕ → ℕ
 of_class f class mask = option_map_or (λ row. f row mask) (class_row class) 0
 
--- set: the named values are cut from the given bytes in attribute order, each as long as the one that it replaces
+-- set: the named values are cut from the given bytes in attribute order, each as long as the one
+-- that it replaces
 abbrev pub set_values : ℕ → List ℕ → Values → Values
 set_values mask given [] = []
 set_values mask given (one ∷ rest) =
@@ -93,7 +97,8 @@ is_onu_data one = one.class == ONU_DATA.class && one.instance == ONU_DATA.instan
 abbrev pub is_counter_set : EntityId → ℕ → Bool
 is_counter_set one mask = is_onu_data one && has mask 1
 
--- the code, with code 9 the masks of the unknown attributes and of those that may not be written, and the database afterwards
+-- the code, with code 9 the masks of the unknown attributes and of those that may not be written,
+-- and the database afterwards
 pub record SetOutcome : Type 0 where
   pub code : ℕ
   pub unsupported : ℕ
@@ -137,7 +142,8 @@ get_code room one mask database = first_code (
 abbrev pub is_answered : ℕ → Bool
 is_answered code = code == SUCCESS.0 || code == ATTRIBUTES_FAILED.0
 
--- the code; with codes 0 and 9 the known attributes and their values, and with code 9 the unknown attributes
+-- the code; with codes 0 and 9 the known attributes and their values, and with code 9 the unknown
+-- attributes
 pub record GetOutcome : Type 0 where
   pub code : ℕ
   pub mask : ℕ
@@ -170,8 +176,8 @@ reset_code one = first_code (
 unfoldable pub reset : Database → Database
 reset database = first_with (values_of (image_entity 0) database) (values_of (image_entity 1) database)
 
--- whether a measured value may be held there: the entity is there and of neither class 2 nor class 7, and the attribute is there,
--- may not be written, and has this width
+-- whether a measured value may be held there: the entity is there and of neither class 2 nor class
+-- 7, and the attribute is there, may not be written, and has this width
 unfoldable pub may_sense : EntityId → ℕ → List ℕ → Database → Bool
 may_sense one number value database =
     is_held one database && not (one.class == 2) && not (one.class == 7)

@@ -1,10 +1,9 @@
 -- What every database has: a counter, and the entities that the unit made.
-use Rattle.std.proofs.Common.{◌≡◌, ℕ, ◌+◌, ◌<◌, ◌≤◌, Bool, true, false, cond, List, [], ◌∷◌, ◌++◌, length, take, drop, Option, Some, None, is_some, Result, Ok, Err, IfOk, OnOk, OnErr, Ordering, refl, sym, ap, subst, ◌∙◌, arith}
+use Rattle.std.proofs.Common.{◌≡◌, ℕ, ◌<◌, Bool, true, false, cond, List, [], ◌∷◌, ◌++◌, length, take, drop, Option, Some, None, is_some, Result, Ok, Err, IfOk, OnOk, OnErr, Ordering, refl, sym, ap, subst, ◌∙◌}
 use Rattle.std.specs.Prelude.{◌&&◌, slice_index_or}
 use Rattle.std.specs.declared.cmp.Ordering.TheVariants.{Less, Equal, Greater}
 use Rattle.std.specs.Ordering.{is_eq}
 use Rattle.std.specs.Option.{option_map_or}
-use Rattle.std.specs.List.{list_all}
 use Rattle.std.specs.Map.{lookup}
 use Rattle.std.specs.BTreeMap.{is_at}
 use Rattle.std.proofs.Math.Seq.{take-add}
@@ -16,7 +15,7 @@ use Rattle.omci_core.specs.declared.errors.NoMemory.{NoMemory}
 use Rattle.class_spec.specs.declared.TheConstants.{ONU_DATA}
 use Rattle.class_spec.specs.Classes.{Row, Attribute, class_row, class_table}
 use Rattle.entity_classes.specs.Rule.{whole_width}
-use Rattle.mib_spec.specs.Database.{Database, Managed, Values, entity_cmp, managed_of, value_at, bytes_of, counter, bump, unit_entities, is_by_unit, is_made_by_unit, has_unit_entities}
+use Rattle.mib_spec.specs.Database.{Database, Managed, Values, entity_cmp, managed_of, value_at, bytes_of, counter, bump, is_by_unit, is_made_by_unit, has_unit_entities}
 use Rattle.mib_spec.specs.Requests.{create_outcome}
 use Rattle.mib_laws.specs.Counted.{IsCounted}
 use Rattle.mib_laws.proofs.Others.{entity_exact}

@@ -1,9 +1,8 @@
 -- The storage of a table: what an edit of the entries or of the order of their places does to the entries in order.
-use Rattle.std.proofs.Common.{◌≡◌, ◌≢◌, ℕ, zero, suc, ◌+◌, ◌-◌, ◌<◌, ◌≤◌, Bool, true, false, List, [], ◌∷◌, ◌++◌, length, take, drop, map, get_or, set, Result, Ok, Err, OnOk, refl, sym, ap, subst, ◌∙◌, inl, inr, append_assoc, length-take, length-drop, arith}
+use Rattle.std.proofs.Common.{◌≡◌, ◌≢◌, ℕ, zero, suc, ◌+◌, ◌-◌, ◌<◌, ◌≤◌, false, List, [], ◌∷◌, ◌++◌, length, take, drop, map, get_or, set, Result, Ok, Err, OnOk, refl, sym, ap, subst, ◌∙◌, inl, inr, append_assoc, length-take, length-drop, arith}
 use Rattle.std.specs.List.{All, AllByRecursion, IsDistinct, insert, remove}
 use Rattle.std.specs.List.Sorted.{IsPermutation, IsSearchInRange, IsBinarySearchResult}
 use Rattle.std.specs.declared.cmp.Ordering.{Ordering}
-use Rattle.std.specs.declared.cmp.Ordering.TheVariants.{Equal}
 use Rattle.std.specs.Ordering.{ordering_index}
 use Rattle.std.proofs.Math.Dec.{eqb}
 use Rattle.std.proofs.Math.Seq.{get_or-append_seam}
@@ -12,8 +11,8 @@ use Rattle.std.proofs.lemmas.Bool.Decides.{eqb_tells}
 use Rattle.std.proofs.lemmas.List.{get_or-map, get_or-set_same, get_or-set_other, get_or_append_left, take_at, take_all, take-take, drop-take, drop-drop, length-take-le, take-map, drop-map, map-append, length-map, length-set, length-append}
 use Rattle.std.proofs.lemmas.Grind.{get_or_default_zero}
 use Rattle.std.proofs.lemmas.List.Elements.{All-take, All-append, All-cons, All-nil}
-use Rattle.std.proofs.lemmas.List.Sorted.{All-permutation, IsPermutation-put_mid, length_permutation}
-use Rattle.std.proofs.lemmas.Map.Keys.{IsDistinct-IsPermutation, IsDistinct-head, IsDistinct-tail, IsDistinct-cons}
+use Rattle.std.proofs.lemmas.List.Sorted.{All-permutation, length_permutation}
+use Rattle.std.proofs.lemmas.Map.Keys.{IsDistinct-IsPermutation}
 use Rattle.std.proofs.lemmas.Slice.{take-put_mid}
 use borrow.Rule.Slice.PartMut.{put_mid, post_of}
 use Rattle.mib_store.specs.declared.entry.Entry.{Entry}
@@ -28,12 +27,11 @@ search_in f order xs (Err at) in_range parts = λ rises.
     let lt' : j < length (map f xs) = omega (arith, lt, length-map xs f) in
     let less : i < length xs = omega (arith, lt, le) in
     subst (λ e. ordering_index (order (f (get_or xs i d))) ≤ ordering_index (order e)) (get_or-map f xs j d no_entry lt)
-    (subst (λ e. ordering_index (order e) ≤ ordering_index (order (get_or (map f xs) j no_entry))) (get_or-map f xs i d no_entry less) (rises i j no_entry le lt'))) in
-    (
+    (subst (λ e. ordering_index (order e) ≤ ordering_index (order (get_or (map f xs) j no_entry))) (get_or-map f xs i d no_entry less) (rises i j no_entry le lt'))) in (
       λ k d low high. ap order (get_or-map f xs k 0 d (omega (arith, high, in_range))) ∙ both.0 k 0 low high,
       λ k d low high.
-      let lt : k < length xs = omega (arith, high, length-map xs f) in
-      ap order (get_or-map f xs k 0 d lt) ∙ both.1 k 0 low lt,
+          let lt : k < length xs = omega (arith, high, length-map xs f) in
+          ap order (get_or-map f xs k 0 d lt) ∙ both.1 k 0 low lt,
     )
 
 pub range_in : (f : ℕ → Entry) (xs : List ℕ) (r : Result ℕ ℕ) → IsSearchInRange r (length xs) → IsSearchInRange r (length (map f xs))

@@ -44,13 +44,15 @@ abbrev pub unit_made : List EntityId → ℕ
 unit_made [] = 0
 unit_made (key ∷ keys) = (if is_unit_made key.class then 1 else 0) + unit_made keys
 
--- what is true of every table: its entities ascend, eleven are of classes that the unit makes, and it has at most 4,096
+-- what is true of every table: its entities ascend, eleven are of classes that the unit makes, and
+-- it has at most 4,096
 pub record IsTable (keys : List EntityId) : Type 0 where
   pub ascending : IsAscending keys
   pub made : unit_made keys ≡ UNIT_ENTITIES
   pub few : length keys ≤ MOST_ENTITIES
 
--- what is true of every database: each of the eleven entities that the unit makes is there, made by the unit
+-- what is true of every database: each of the eleven entities that the unit makes is there, made by
+-- the unit
 pub record IsMib (entries : List Entry) : Type 0 where
   pub table : IsTable (keys_of entries)
   pub whole : has_unit_entities (database_of entries) ≡ true

@@ -1,4 +1,5 @@
--- The storage of a table: entries in the order in which they were made, and the order of their places.
+-- The storage of a table: entries in the order in which they were made, and the order of their
+-- places.
 use Rattle.std.specs.Prelude.{◌≡◌, ℕ, ◌<◌, ◌≤◌, List, length, take, map, slice_index_or}
 use Rattle.std.specs.List.{All, IsDistinct}
 use Rattle.std.proofs.Math.Dec.{eqb}

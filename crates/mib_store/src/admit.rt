@@ -4,7 +4,8 @@ ghost use Rattle.std.specs.Prelude.{◌≡◌, ◌==◌, false, length, IfOk, If
 ghost use Rattle.mib_spec.specs.Database.{is_by_unit};
 ghost use Rattle.mib_spec.specs.Requests.{create_code, delete_code, may_sense};
 ghost use Rattle.mib_store.specs.Entries.{database_of, keys_of, IsAscending};
-ghost use Rattle.mib_store.specs.Admitted.{AdmitsCreate, AdmitsDelete, Admits, IsRefused, AdmitsSense};
+ghost use Rattle.mib_store.specs.Admitted.{AdmitsCreate, AdmitsDelete, Admits, IsRefused};
+ghost use Rattle.mib_store.specs.Admitted.{AdmitsSense};
 
 use crate::table::Table;
 use bitflags::Flags;
@@ -74,7 +75,8 @@ pub(crate) fn admit(table: &Table, entity: EntityId) -> Result<Admitted, Code>
     }
 }
 
-/// The attribute of an entity that the unit may measure: of neither class 2 nor class 7, not to be written, and of this width.
+/// The attribute of an entity that the unit may measure: of neither class 2 nor class 7, not to be
+/// written, and of this width.
 pub(crate) fn admit_sense(
     table: &Table,
     entity: EntityId,

@@ -12,7 +12,8 @@ pub(crate) const NO_ENTITY: EntityId = EntityId {
     instance: 0,
 };
 
-/// An entity, and the values of its attributes one after the other in attribute order, with zeros after them.
+/// An entity, and the values of its attributes one after the other in attribute order, with zeros
+/// after them.
 #[derive(Clone, Copy, Debug)]
 pub(crate) struct Entry {
     pub(crate) entity: EntityId,

@@ -1,6 +1,7 @@
 //! The index of a table: the places of its entries in ascending order of the entity.
 
-ghost use Rattle.std.specs.Prelude.{◌≡◌, ◌+◌, ◌<◌, ◌≤◌, ◌^◌, ◌++◌, [], ◌∷◌, IfOk, IfErr, OnOk, OnErr, length, slice_set, take};
+ghost use Rattle.std.specs.Prelude.{◌≡◌, ◌+◌, ◌<◌, ◌≤◌, ◌^◌, ◌++◌, [], ◌∷◌, IfOk, IfErr, OnOk};
+ghost use Rattle.std.specs.Prelude.{OnErr, length, slice_set, take};
 ghost use Rattle.std.specs.List.{All, IsDistinct, insert, remove};
 ghost use Rattle.std.specs.List.Sorted.{IsPermutation};
 ghost use Rattle.mib_store.specs.Entries.{keys_of, IsAscending, IsAt, IsGap, entry_at};
@@ -40,7 +41,8 @@ pub(crate) fn write_in(entries: &mut [Entry], order: &[u16], at: usize, entry: E
     entries[order[at] as usize] = entry;
 }
 
-/// Puts the entry into the first free place, which is made where there is none. Without memory nothing has changed.
+/// Puts the entry into the first free place, which is made where there is none. Without memory
+/// nothing has changed.
 pub(crate) fn lodge(
     entries: &mut Vec<Entry>,
     order: &mut Vec<u16>,
@@ -63,11 +65,7 @@ pub(crate) fn lodge(
 }
 
 /// Adds the entry at the end, and its place to the free ones. Without memory nothing has changed.
-fn append(
-    entries: &mut Vec<Entry>,
-    order: &mut Vec<u16>,
-    entry: Entry,
-) -> Result<(), NoMemory>
+fn append(entries: &mut Vec<Entry>, order: &mut Vec<u16>, entry: Entry) -> Result<(), NoMemory>
     requires few { length entries.old.items < 2 ^ 16 }
     ensures entries { OnOk result (entries.new.items ≡ entries.old.items ++ entry ∷ []) }
     ensures order { OnOk result

@@ -1,6 +1,7 @@
 //! The values of an entity as bytes that stand one after the other.
 
-ghost use Rattle.std.specs.Prelude.{◌≡◌, ◌+◌, ◌<◌, ◌≤◌, ◌++◌, true, false, length, take, drop, if◌then◌else◌};
+ghost use Rattle.std.specs.Prelude.{◌≡◌, ◌+◌, ◌<◌, ◌≤◌, ◌++◌, true, false, length, take, drop};
+ghost use Rattle.std.specs.Prelude.{if◌then◌else◌};
 ghost use Rattle.class_spec.specs.Classes.{Attribute as Listed};
 ghost use Rattle.class_spec.specs.Masks.{width_where};
 ghost use Rattle.entity_classes.specs.Rule.{IsRow, attribute_of};
@@ -9,8 +10,8 @@ ghost use Rattle.mib_store.specs.Layout.{picks, chosen_bytes, with_chosen};
 ghost use Rattle.mib_store.specs.Step.{IsStep};
 
 use crate::entry::ROOM;
-use class_spec::GET_ROOM;
 use bitflags::Flags;
+use class_spec::GET_ROOM;
 use entity_classes::{Access, Attribute, Class};
 use omci_attributes::Mask;
 
@@ -49,7 +50,8 @@ pub(crate) fn with_chosen(
 /// The chosen values, one after the other, and zeros after them.
 pub(crate) fn gather(class: &Class, chosen: Chosen, values: &[u8; ROOM]) -> [u8; GET_ROOM]
     requires { width_where (picks chosen) class.now.attributes ≤ GET_ROOM }
-    ensures { result ≡ with_zeros GET_ROOM (chosen_bytes (picks chosen) class.now.attributes values.now) }
+    ensures { result
+        ≡ with_zeros GET_ROOM (chosen_bytes (picks chosen) class.now.attributes values.now) }
 {
     let mut into = [0; GET_ROOM];
     let mut from = 0;

@@ -1,4 +1,5 @@
-//! The unit's database: a table of the entities with the bytes of their attributes, and an index in ascending order.
+//! The unit's database: a table of the entities with the bytes of their attributes, and an index in
+//! ascending order.
 #![tactic(auto)]
 
 mod admit;

@@ -1,8 +1,11 @@
 //! The database and its calls.
 
-ghost use Rattle.std.specs.Prelude.{◌≡◌, ◌≢◌, ◌<◌, ◌≤◌, ℕ, true, length, slice_index_or, OnOk, OnErr, IfOk, IsErr};
-ghost use Rattle.mib_spec.specs.Database.{Managed, first, counter, bump, bytes_of, with_counter_grown, with_software, has_unit_entities};
-ghost use Rattle.mib_spec.specs.Requests.{create_outcome, create_code, delete_outcome, set_outcome, get_outcome, reset, sense_outcome};
+ghost use Rattle.std.specs.Prelude.{◌≡◌, ◌≢◌, ◌<◌, ◌≤◌, ℕ, true, length, slice_index_or, OnOk};
+ghost use Rattle.std.specs.Prelude.{OnErr, IfOk, IsErr};
+ghost use Rattle.mib_spec.specs.Database.{Managed, first, counter, bump, bytes_of};
+ghost use Rattle.mib_spec.specs.Database.{with_counter_grown, with_software, has_unit_entities};
+ghost use Rattle.mib_spec.specs.Requests.{create_outcome, create_code, delete_outcome, set_outcome};
+ghost use Rattle.mib_spec.specs.Requests.{get_outcome, reset, sense_outcome};
 
 use crate::answers::{GetAnswer, SetAnswer};
 use crate::first::{first_entries, image_of};
@@ -17,9 +20,10 @@ use omci_types::{Code, EntityId, Software};
 use std::alloc::Global;
 use std::marker::Model;
 
-/// The unit's database (ITU-T G.988, clause 9.1.3), which the unit holds from its start on: at most 4,096 entities, each with its
-/// maker and the values of its attributes. The eleven that the unit makes are always there. Attribute 1 of ONU data, MIB data sync,
-/// is the counter: `create`, `delete` and `set` with code 0, and `grow`, change it. Only `new` and `create` take memory.
+/// The unit's database (ITU-T G.988, clause 9.1.3), which the unit holds from its start on: at most
+/// 4,096 entities, each with its maker and the values of its attributes. The eleven that the unit
+/// makes are always there. Attribute 1 of ONU data, MIB data sync, is the counter: `create`,
+/// `delete` and `set` with code 0, and `grow`, change it. Only `new` and `create` take memory.
 #[derive(Drop)]
 pub struct Mib {
     table: Table,
@@ -47,11 +51,13 @@ impl Mib {
         })
     }
 
-    /// Makes an entity. Its values are cut from the bytes in attribute order, and those that a create doesn't set are zero. The codes are 0,
-    /// 4, 2, 7 and 1; after a code other than 0, and without memory, nothing has changed. It takes memory where the code would be 0,
-    /// and nowhere else.
+    /// Makes an entity. Its values are cut from the bytes in attribute order, and those that a
+    /// create doesn't set are zero. The codes are 0, 4, 2, 7 and 1; after a code other than 0, and
+    /// without memory, nothing has changed. It takes memory where the code would be 0, and nowhere
+    /// else.
     pub fn create(&mut self, entity: EntityId, values: &[u8; CREATE_ROOM]) -> Result<Code, NoMemory>
-        ensures code { IfOk result (λ code. code.0 ≡ (create_outcome entity values.now self.old).0) }
+        ensures code { IfOk result
+            (λ code. code.0 ≡ (create_outcome entity values.now self.old).0) }
         ensures ok { OnOk result (self.new ≡ (create_outcome entity values.now self.old).1) }
         ensures kept { IfOk result (λ code. code.0 ≢ 0 → self.new ≡ self.old) }
         ensures counter { IfOk result
@@ -62,8 +68,8 @@ impl Mib {
         create_in(&mut self.table, entity, values)
     }
 
-    /// Removes an entity that the manager has made. The codes are 0, 4, 2 and 5; after a code other than 0 nothing has changed.
-    /// It takes no memory.
+    /// Removes an entity that the manager has made. The codes are 0, 4, 2 and 5; after a code other
+    /// than 0 nothing has changed. It takes no memory.
     pub fn delete(&mut self, entity: EntityId) -> Code
         ensures code { result.0 ≡ (delete_outcome entity self.old).0 }
         ensures database { self.new ≡ (delete_outcome entity self.old).1 }
@@ -73,8 +79,9 @@ impl Mib {
         delete_in(&mut self.table, entity)
     }
 
-    /// Stores the values of the named attributes, all or none. They are cut from the bytes in attribute order. The codes are 0, 4, 5, 9 and
-    /// 3; after a code other than 0 nothing has changed. It takes no memory.
+    /// Stores the values of the named attributes, all or none. They are cut from the bytes in
+    /// attribute order. The codes are 0, 4, 5, 9 and 3; after a code other than 0 nothing has
+    /// changed. It takes no memory.
     pub fn set(&mut self, entity: EntityId, mask: Mask, values: &[u8; SET_ROOM]) -> SetAnswer
         ensures code { result.code.0
             ≡ (set_outcome entity mask.0 values.now self.old).code }
@@ -94,12 +101,14 @@ impl Mib {
         ensures code { result.code.0 ≡ (get_outcome entity mask.0 self.now).code }
         ensures mask { result.mask.0 ≡ (get_outcome entity mask.0 self.now).mask }
         ensures values { result.values ≡ (get_outcome entity mask.0 self.now).values }
-        ensures unsupported { result.unsupported.0 ≡ (get_outcome entity mask.0 self.now).unsupported }
+        ensures unsupported { result.unsupported.0
+            ≡ (get_outcome entity mask.0 self.now).unsupported }
     {
         get_in(&self.table, entity, mask)
     }
 
-    /// Makes the database the first one, with the software images as they stand and the counter 0. It takes no memory.
+    /// Makes the database the first one, with the software images as they stand and the counter 0.
+    /// It takes no memory.
     pub fn reset(&mut self)
         ensures { self.new ≡ reset self.old }
     {
@@ -146,8 +155,8 @@ impl Mib {
         self.table.entry(place).entity
     }
 
-    /// The values of the entity in this place, counted from 0 in ascending order: the bytes of all its attributes, one after the other
-    /// in attribute order. It takes no memory.
+    /// The values of the entity in this place, counted from 0 in ascending order: the bytes of all
+    /// its attributes, one after the other in attribute order. It takes no memory.
     pub fn values(&self, place: usize) -> &[u8]
         requires { place < length self.now }
         ensures { (other : EntityId × Managed)
@@ -160,9 +169,9 @@ impl Mib {
         }
     }
 
-    /// Takes a value that the unit has measured: `NotAllowed` exactly where the entity isn't there, its class is 2 or 7, the attribute isn't
-    /// there or may be written, or the value has another width; `Same` exactly where the value is already held; else `Changed`.
-    /// It takes no memory.
+    /// Takes a value that the unit has measured: `NotAllowed` exactly where the entity isn't there,
+    /// its class is 2 or 7, the attribute isn't there or may be written, or the value has another
+    /// width; `Same` exactly where the value is already held; else `Changed`. It takes no memory.
     pub fn sense(&mut self, entity: EntityId, number: u8, value: &[u8]) -> Sensed
         ensures sensed { result ≡ (sense_outcome entity number value.now self.old).0 }
         ensures database { self.new ≡ (sense_outcome entity number value.now self.old).1 }

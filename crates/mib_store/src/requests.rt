@@ -1,8 +1,10 @@
 //! What each request does to the table.
 
-ghost use Rattle.std.specs.Prelude.{◌≡◌, ◌≢◌, ◌≤◌, ◌==◌, ◌&&◌, OnOk, OnErr, IfOk, IsErr, bytes_eq, length, take, if◌then◌else◌};
+ghost use Rattle.std.specs.Prelude.{◌≡◌, ◌≢◌, ◌≤◌, ◌==◌, ◌&&◌, OnOk, OnErr, IfOk, IsErr, bytes_eq};
+ghost use Rattle.std.specs.Prelude.{length, take, if◌then◌else◌};
 ghost use Rattle.mib_spec.specs.Database.{with_counter_grown, with_software};
-ghost use Rattle.mib_spec.specs.Requests.{create_outcome, create_code, delete_outcome, set_outcome, get_outcome, reset, sense_outcome, is_counter_set};
+ghost use Rattle.mib_spec.specs.Requests.{create_outcome, create_code, delete_outcome, set_outcome};
+ghost use Rattle.mib_spec.specs.Requests.{get_outcome, reset, sense_outcome, is_counter_set};
 ghost use Rattle.mib_store.specs.Entries.{database_of, keys_of, IsAscending, IsTable};
 
 use crate::admit::{admit, admit_create, admit_delete, admit_sense};
@@ -212,7 +214,8 @@ pub(crate) fn software_in(table: &mut Table, software: &Software)
 pub(crate) fn sense_in(table: &mut Table, entity: EntityId, number: u8, value: &[u8]) -> Sensed
     requires { IsAscending (keys_of table.old) }
     ensures sensed { result ≡ (sense_outcome entity number value.now (database_of table.old)).0 }
-    ensures database { database_of table.new ≡ (sense_outcome entity number value.now (database_of table.old)).1 }
+    ensures database { database_of table.new
+        ≡ (sense_outcome entity number value.now (database_of table.old)).1 }
     ensures keys { keys_of table.new ≡ keys_of table.old }
 {
     let Some(admitted) = admit_sense(table, entity, number, value) else {

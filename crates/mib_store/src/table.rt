@@ -1,26 +1,29 @@
-//! The table: entries in the order in which they were made, and an index that has their places in ascending order of the
-//! entity. A create or a delete moves places of two bytes, and no entry.
+//! The table: entries in the order in which they were made, and an index that has their places in
+//! ascending order of the entity. A create or a delete moves places of two bytes, and no entry.
 
 ghost use Rattle.std.specs.Prelude.{◌≡◌, ◌<◌, ◌≤◌, ◌^◌, IfOk, IfErr, OnOk, OnErr, length};
-ghost use Rattle.mib_spec.specs.Database.{bump, counter, with_counter_grown, with_values, values_of};
-ghost use Rattle.mib_store.specs.Entries.{values_in, database_of, keys_of, IsAscending, IsAt, IsGap, entry_at, Inserts, Removes};
+ghost use Rattle.mib_spec.specs.Database.{bump, counter, with_counter_grown, with_values};
+ghost use Rattle.mib_spec.specs.Database.{values_of};
+ghost use Rattle.mib_store.specs.Entries.{values_in, database_of, keys_of, IsAscending, IsAt};
+ghost use Rattle.mib_store.specs.Entries.{IsGap, entry_at, Inserts, Removes};
 
 use crate::entry::{Entry, ROOM};
-use crate::first::MADE;
 use crate::index::{find_in, lodge, move_to, move_to_end, write_in};
 use class_spec::ONU_DATA;
+use mib_spec::UNIT_ENTITIES;
 use omci_core::NoMemory;
 use omci_types::EntityId;
 use std::alloc::Global;
 use std::marker::Model;
 
-/// The entities of a unit with their values, seen as the list of its entries in ascending order of the entity. `Mib` holds it;
-/// `insert` alone takes memory.
+/// The entities of a unit with their values, seen as the list of its entries in ascending order of
+/// the entity. `Mib` holds it; `insert` alone takes memory.
 #[derive(Drop)]
 pub(crate) struct Table {
     /// The entries, and between them those that were removed, in whose places the next ones go.
     entries: Vec<Entry>,
-    /// Each place of an entry once: first those of the entries that are there, in ascending order of the entity, then the free ones.
+    /// Each place of an entry once: first those of the entries that are there, in ascending order
+    /// of the entity, then the free ones.
     order: Vec<u16>,
     /// How many entries are there.
     count: usize,
@@ -39,11 +42,11 @@ impl Model for Table {
 }
 
 /// The places of the first entries.
-const FIRST_ORDER: [u16; MADE] = [0, 1, 2, 3, 4, 5, 6, 7, 8, 9, 10];
+const FIRST_ORDER: [u16; UNIT_ENTITIES] = [0, 1, 2, 3, 4, 5, 6, 7, 8, 9, 10];
 
 impl Table {
     /// A table of these entries, which stand in ascending order.
-    pub(crate) fn of(alloc: Global, entries: &[Entry; MADE]) -> Result<Table, NoMemory>
+    pub(crate) fn of(alloc: Global, entries: &[Entry; UNIT_ENTITIES]) -> Result<Table, NoMemory>
         ensures { IfOk result (λ table. table ≡ entries.now) }
     {
         let made = Vec::from_slice(alloc, entries)?;
@@ -51,18 +54,18 @@ impl Table {
         Ok(Table {
             entries: made,
             order,
-            count: MADE,
+            count: UNIT_ENTITIES,
         })
     }
 
     /// Puts these entries, which stand in ascending order, in place of all.
-    pub(crate) fn refill(&mut self, entries: &[Entry; MADE])
-        requires { 11 ≤ length self.old }
+    pub(crate) fn refill(&mut self, entries: &[Entry; UNIT_ENTITIES])
+        requires { UNIT_ENTITIES ≤ length self.old }
         ensures { self.new ≡ entries.now }
     {
-        self.entries.truncate(MADE);
-        self.order.truncate(MADE);
-        self.count = MADE;
+        self.entries.truncate(UNIT_ENTITIES);
+        self.order.truncate(UNIT_ENTITIES);
+        self.count = UNIT_ENTITIES;
         overwrite(&mut self.entries, entries);
         overwrite(&mut self.order, &FIRST_ORDER);
     }
@@ -139,8 +142,8 @@ impl Table {
     }
 }
 
-fn overwrite<T: Copy>(into: &mut Vec<T>, from: &[T; MADE])
-    requires { length into.old.items ≡ 11 }
+fn overwrite<T: Copy>(into: &mut Vec<T>, from: &[T; UNIT_ENTITIES])
+    requires { length into.old.items ≡ UNIT_ENTITIES }
     ensures { into.new.items ≡ from.now }
 {
     into.as_mut_slice().copy_from_slice(from);

@@ -1,7 +1,7 @@
 //! Places of the values of class 84, VLAN tagging filter data: 24 bytes, 1 byte and 1 byte.
 
-use crate::{Mask, MaskFault, known, place, width};
 use entity_classes::class;
+use omci_attributes::{Mask, MaskFault, known, place, width};
 use std::test::Fail;
 
 #[test]

@@ -1,10 +1,12 @@
-//! The table against the profile, which is written out here once more, and the numbers of no class.
+//! The class table against the profile, which is written out here once more, and the numbers of no
+//! class.
 
-use crate::{Access, Maker, class};
 use bitflags::Flags;
+use entity_classes::{Access, Maker, class};
 use std::test::Fail;
 
-// Each class with its maker, how many attributes it has, how many of them may be written and are set by create, and its bytes.
+// Each class with its maker, how many attributes it has, how many of them may be written and are
+// set by create, and its bytes.
 const CLASSES: [(u16, Maker, u8, u8, u8, u32); 13] = [
     (2, Maker::Unit, 1, 1, 0, 1),
     (7, Maker::Unit, 4, 0, 0, 17),
@@ -25,6 +27,7 @@ const CLASSES: [(u16, Maker, u8, u8, u8, u32); 13] = [
 fn classes_are_those_of_the_profile(rt: HostRuntime) -> Result<(), Fail> {
     for (number, maker, count, written, created, bytes) in CLASSES {
         let class = class(number).ok_or("no such class")?;
+        assert_eq!(rt; class.width() as u32, bytes);
         assert_eq!(rt; class.number(), number);
         assert_eq!(rt; class.maker(), maker);
         assert_eq!(rt; class.count(), count);

@@ -1,6 +1,6 @@
 //! The first database value by value, the profile's rows, and each refusal.
 
-use crate::{Mask, Mib, Sensed};
+use mib_store::{Mask, Mib, Sensed};
 use omci_types::{Code, EntityId, SlotView, Software};
 use std::test::Fail;
 
@@ -19,7 +19,8 @@ fn entity(class: u16, instance: u16) -> EntityId {
     EntityId { class, instance }
 }
 
-// Class, instance, mask, how many zeros its values begin with, and what follows them. Every further byte is zero.
+// Class, instance, mask, how many zeros its values begin with, and what follows them. Every further
+// byte is zero.
 const FIRST: [(u16, u16, u16, usize, &[u8]); 15] = [
     (2, 0, 0x8000, 0, &[0]),
     (

@@ -1,6 +1,13 @@
-//! Whole runs of the top call over the sources and sinks in memory. The crate has tests alone.
+//! The class table, the masks, the database, and whole runs of the top call over the sources and sinks in memory. The crate has
+//! tests alone.
 #![tactic(auto)]
 
+#[cfg(test)]
+mod attributes;
+#[cfg(test)]
+mod classes;
+#[cfg(test)]
+mod database;
 #[cfg(test)]
 mod failing;
 #[cfg(test)]

@@ -1,4 +1,4 @@
-use Rattle.std.proofs.Common.{refl, subst, sym}
+use Rattle.std.proofs.Common.{refl}
 use Rattle.std.proofs.lemmas.List.Sorted.{IsPermutation-put_mid}
 use Rattle.mib_store.proofs.Storage.{moved_up}
 use Rattle.mib_store.proofs.index.move_to.Goals as goal

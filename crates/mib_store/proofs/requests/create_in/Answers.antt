@@ -1,9 +1,6 @@
-use Rattle.std.proofs.Common.{◌≡◌, ◌≤◌, List, length, ap, subst, ◌∙◌, arith}
+use Rattle.std.proofs.Common.{◌≤◌, length, ap, ◌∙◌, arith}
 use Rattle.mib_spec.specs.Database.{Managed, with_counter_grown, with_entity}
-use Rattle.mib_spec.specs.Requests.{create_code}
-use Rattle.mib_store.specs.declared.entry.Entry.{Entry}
 use Rattle.mib_store.specs.Entries.{database_of}
-use Rattle.mib_store.specs.Admitted.{AdmitsCreate}
 use Rattle.mib_store.proofs.Effects.{created_code, created_kept, created_done, created_is}
 use Rattle.mib_store.proofs.requests.create_in.Goals as goal
 

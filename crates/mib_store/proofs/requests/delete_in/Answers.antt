@@ -1,9 +1,6 @@
-use Rattle.std.proofs.Common.{◌≡◌, List, ap, subst, ◌∙◌}
+use Rattle.std.proofs.Common.{ap, ◌∙◌}
 use Rattle.mib_spec.specs.Database.{with_counter_grown}
-use Rattle.mib_spec.specs.Requests.{delete_code}
-use Rattle.mib_store.specs.declared.entry.Entry.{Entry}
 use Rattle.mib_store.specs.Entries.{database_of}
-use Rattle.mib_store.specs.Admitted.{AdmitsDelete}
 use Rattle.mib_store.proofs.Effects.{deleted_code, deleted_kept, deleted_done}
 use Rattle.mib_store.proofs.requests.delete_in.Goals as goal
 

@@ -2,7 +2,6 @@ use Rattle.std.proofs.Common.{◌≡◌, ◌≤◌, ◌<◌, refl, ap, ◌∙◌
 use Rattle.std.specs.Prelude.{◌==◌}
 use Rattle.std.proofs.lemmas.Bool.Decides.{nat_tests}
 use Rattle.class_spec.specs.Masks.{unknown_mask, width_of}
-use Rattle.mib_store.specs.declared.entry.Entry.{Entry}
 use Rattle.mib_store.specs.Entries.{database_of, values_in}
 use Rattle.mib_store.proofs.Places.{values_at}
 use Rattle.mib_store.proofs.Codes.{get_wide, get_answers}

@@ -1,4 +1,4 @@
-use Rattle.std.proofs.Common.{length, ap, ◌∙◌, arith}
+use Rattle.std.proofs.Common.{ap, ◌∙◌, arith}
 use Rattle.std.proofs.lemmas.List.{length-map}
 use Rattle.mib_spec.specs.Database.{image_entity, first_with, values_of}
 use Rattle.mib_spec.specs.Requests.{reset}

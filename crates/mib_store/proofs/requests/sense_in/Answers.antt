@@ -1,6 +1,5 @@
 use Rattle.std.proofs.Common.{◌≤◌, length, sym, ap, ◌∙◌, arith}
 use Rattle.mib_spec.specs.Database.{with_values}
-use Rattle.mib_store.specs.declared.entry.Entry.{Entry}
 use Rattle.mib_store.specs.Entries.{database_of, values_in}
 use Rattle.mib_store.proofs.Places.{values_at}
 use Rattle.mib_store.proofs.Values.{only_width, found_width}

@@ -1,10 +1,7 @@
 use Rattle.std.proofs.Common.{◌≤◌, ◌<◌, length, refl, sym, ap, ◌∙◌, arith}
 use Rattle.std.specs.Prelude.{◌==◌, ◌&&◌}
-use Rattle.class_spec.specs.Masks.{unknown_mask, width_of, width_where}
+use Rattle.class_spec.specs.Masks.{unknown_mask, width_of}
 use Rattle.mib_spec.specs.Database.{with_values}
-use Rattle.mib_store.specs.declared.layout.Chosen.TheVariants.{Named}
-use Rattle.mib_store.specs.Layout.{picks}
-use Rattle.mib_store.specs.declared.entry.Entry.{Entry}
 use Rattle.mib_store.specs.Entries.{database_of, values_in}
 use Rattle.mib_store.proofs.Places.{values_at}
 use Rattle.mib_store.proofs.Codes.{set_attributes, set_wide, set_stores}

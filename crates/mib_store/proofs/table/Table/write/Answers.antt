@@ -1,4 +1,4 @@
-use Rattle.std.proofs.Common.{◌≡◌, ◌∙◌, ap, sym, subst, rules, length, set, take}
+use Rattle.std.proofs.Common.{◌≡◌, ◌∙◌, ap, subst, rules, set, take}
 use Rattle.std.proofs.lemmas.List.{with_items_is, places}
 use Rattle.mib_store.specs.Entries.{database_of, keys_of}
 use Rattle.mib_store.specs.Storage.{in_order}
