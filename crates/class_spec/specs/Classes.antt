@@ -1,9 +1,11 @@
--- The managed entity classes (ITU-T G.988, clause 9, in this profile): who makes each, and its attributes in order.
+-- The managed entity classes (ITU-T G.988, clause 9, in this profile): who makes each, and its
+-- attributes in order.
 use Rattle.std.specs.Prelude.{ℕ, ◌+◌, ◌==◌, Bool, true, false, List, [], ◌∷◌, if◌then◌else◌, Option, Some, None}
 use Rattle.class_spec.specs.declared.Maker.{Maker}
 use Rattle.class_spec.specs.declared.Maker.TheVariants.{Unit as by_unit, Manager as by_manager}
 
--- an attribute: its number, its width in bytes, whether it may be written, and whether a create sets it
+-- an attribute: its number, its width in bytes, whether it may be written, and whether a create
+-- sets it
 pub record Attribute : Type 0 where
   pub number : ℕ
   pub width : ℕ
@@ -16,7 +18,8 @@ pub record Row : Type 0 where
   pub maker : Maker
   pub attributes : List Attribute
 
--- what the table says of an attribute: its width, and whether it may be written and is set by create
+-- what the table says of an attribute: its width, and whether it may be written and is set by
+-- create
 pub record Shape : Type 0 where
   pub width : ℕ
   pub written : Bool
@@ -35,17 +38,17 @@ abbrev pub c : ℕ → Shape
 c width = record { width = width; written = true; created = true }
 
 -- the attributes of these shapes, the first with this number
-abbrev pub numbered : ℕ → List Shape → List Attribute
-numbered number [] = []
-numbered number (shape ∷ shapes) =
-    record { number = number; width = shape.width; written = shape.written; created = shape.created } ∷ numbered (number + 1) shapes
+abbrev pub attributes_from : ℕ → List Shape → List Attribute
+attributes_from number [] = []
+attributes_from number (shape ∷ shapes) =
+    record { number = number; width = shape.width; written = shape.written; created = shape.created } ∷ attributes_from (number + 1) shapes
 
 abbrev pub row : ℕ → Maker → List Shape → Row
-row number maker shapes = record { number = number; maker = maker; attributes = numbered 1 shapes }
+row number maker shapes = record { number = number; maker = maker; attributes = attributes_from 1 shapes }
 
--- ONU data, software image, PPTP Ethernet UNI, MAC bridge service profile, MAC bridge port configuration data, VLAN tagging
--- filter data, 802.1p mapper service profile, ONU-G, ONU2-G, T-CONT, GEM interworking termination point, GEM port network
--- CTP, GAL Ethernet profile
+-- ONU data, software image, PPTP Ethernet UNI, MAC bridge service profile, MAC bridge port
+-- configuration data, VLAN tagging filter data, 802.1p mapper service profile, ONU-G, ONU2-G,
+-- T-CONT, GEM interworking termination point, GEM port network CTP, GAL Ethernet profile
 unfoldable pub class_table : List Row
 class_table =
     row 2 by_unit (w 1 ∷ []) ∷

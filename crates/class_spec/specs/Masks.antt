@@ -1,4 +1,5 @@
--- The masks of attributes (ITU-T G.988, clause 11.2): attribute 1 is the most significant of 16 bits, attribute 16 the least.
+-- The masks of attributes (ITU-T G.988, clause 11.2): attribute 1 is the most significant of 16
+-- bits, attribute 16 the least.
 use Rattle.std.specs.Prelude.{ℕ, ◌+◌, ◌-◌, ◌/◌, ◌%◌, ◌^◌, ◌==◌, ◌&&◌, not, Bool, nat_lt, List, [], ◌∷◌, if◌then◌else◌}
 use Rattle.class_spec.specs.Classes.{Attribute, Row}
 

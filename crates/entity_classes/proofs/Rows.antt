@@ -1,6 +1,6 @@
 -- The rule of each class, and an attribute by its number.
 use Rattle.std.proofs.Common.{◌≡◌, ℕ, zero, suc, ◌+◌, ◌-◌, ◌<◌, ◌≤◌, Bool, true, false, cond, List, [], ◌∷◌, map, length, slice_get, Option, Some, None, option_map, IsSome, ◌↔◌, refl, sym, ap, subst, ◌∙◌, arith}
-use Rattle.std.specs.Prelude.{◌&&◌, nat_le, ◌==◌}
+use Rattle.std.specs.Prelude.{◌&&◌, nat_le, ◌==◌, bit_and, is_some}
 use Rattle.std.specs.List.{list_all}
 use Rattle.std.proofs.lemmas.List.{length-map}
 use Rattle.std.proofs.lemmas.Bool.{false≢true}
@@ -10,7 +10,8 @@ use Rattle.entity_classes.specs.Kinds.{row_of, found_row, number_of}
 use Rattle.entity_classes.specs.declared.kinds.Kind.{Kind}
 use Rattle.entity_classes.specs.declared.access.Access.{Access}
 use Rattle.entity_classes.specs.declared.classes.Attribute.{Attribute}
-use Rattle.entity_classes.specs.Rule.{IsRow, IsNumbered, created_width, whole_width, listed_as, attribute_of}
+use Rattle.entity_classes.specs.declared.access.TheConstants.Access.{READ, WRITE, SET_BY_CREATE}
+use Rattle.entity_classes.specs.Rule.{IsRow, IsNumbered, created_width, whole_width, listed_as, attribute_of, access_of, allows}
 
 -- the rule as a test
 abbrev is_numbered : ℕ → List Listed → Bool
@@ -119,3 +120,40 @@ module _ (kind : Kind) (row : Row) (view : row_of kind ≡ row) (shapes : List (
 -- the class has no attribute 0
 pub none_at_zero : (kind : Kind) (row : Row) → row_of kind ≡ row → (number : ℕ) → number ≡ 0 → attribute_in row.attributes number ≡ None
 none_at_zero kind row view number zero_is = attribute_in-below row.attributes 1 number (subst IsRow view (row_rule kind)).numbered (omega arith)
+
+-- what the bits of the rights say
+read_bit : (written created : Bool) → (bit_and (1 + cond written 2 0 + cond created 4 0) 1 == 1) ≡ true
+read_bit true true = refl
+read_bit true false = refl
+read_bit false true = refl
+read_bit false false = refl
+
+write_bit : (written created : Bool) → (bit_and (1 + cond written 2 0 + cond created 4 0) 2 == 2) ≡ written
+write_bit true true = refl
+write_bit true false = refl
+write_bit false true = refl
+write_bit false false = refl
+
+create_bit : (written created : Bool) → (bit_and (1 + cond written 2 0 + cond created 4 0) 4 == 4) ≡ created
+create_bit true true = refl
+create_bit true false = refl
+create_bit false true = refl
+create_bit false false = refl
+
+abbrev attribute_or : Attribute → Option Attribute → Attribute
+attribute_or default None = default
+attribute_or default (Some attribute) = attribute
+
+module _ (found : Option Listed) (attribute : Attribute) (is : Some attribute ≡ option_map attribute_of found) where
+  rights_as : (one : Listed) → found ≡ Some one → attribute.access ≡ access_of one
+  rights_as one here = ap (λ o. (attribute_or attribute o).access) (is ∙ ap (option_map attribute_of) here)
+
+  pub may_write : (one : Listed) → found ≡ Some one → allows attribute.access WRITE ≡ one.written
+  may_write one here = ap (λ (a : Access). allows a WRITE) (rights_as one here) ∙ write_bit one.written one.created
+
+  pub may_create : (one : Listed) → found ≡ Some one → allows attribute.access SET_BY_CREATE ≡ one.created
+  may_create one here = ap (λ (a : Access). allows a SET_BY_CREATE) (rights_as one here) ∙ create_bit one.written one.created
+
+pub may_read : (found : Option Listed) (attribute : Attribute) → Some attribute ≡ option_map attribute_of found → allows attribute.access READ ≡ true
+may_read None attribute is = absurd (false≢true (sym (ap is_some is)))
+may_read (Some one) attribute is = ap (λ (a : Access). allows a READ) (rights_as (Some one) attribute is one refl) ∙ read_bit one.written one.created

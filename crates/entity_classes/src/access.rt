@@ -4,7 +4,8 @@ ghost use Rattle.std.specs.Prelude.{⊤, [], ◌∷◌, codes};
 
 use bitflags::{Flag, Flags, bitflag_items};
 
-/// The rights of a manager on an attribute (ITU-T G.988, clause 9): read, write, set by create. Each attribute may be read.
+/// The rights of a manager on an attribute (ITU-T G.988, clause 9): read, write, set by create.
+/// Each attribute may be read.
 #[derive(Clone, Copy, Debug, PartialEq, Eq)]
 pub struct Access(u8);
 

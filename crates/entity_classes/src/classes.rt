@@ -1,14 +1,16 @@
 //! A class of the profile, and its attributes.
 
-ghost use Rattle.std.specs.Prelude.{◌≡◌, ◌-◌, ◌<◌, ◌≤◌, ◌↔◌, length, slice_get, option_map, IsSome, IfSome};
-ghost use Rattle.class_spec.specs.Classes.{attribute_in};
+ghost use Rattle.std.specs.Prelude.{◌≡◌, ◌-◌, ◌<◌, ◌≤◌, ◌↔◌, true, length, slice_get, option_map};
+ghost use Rattle.std.specs.Prelude.{IsSome, IfSome, Some};
+ghost use Rattle.class_spec.specs.Classes.{Attribute as Listed, attribute_in};
 
 use crate::access::Access;
 use crate::kinds::{Kind, shape_at, shapes};
-use class_spec::Maker;
+use class_spec::{Maker, WIDEST_CLASS};
 use std::marker::Model;
 
-/// An attribute of a class: its number from 1 on, its width in bytes, and the manager's rights on it.
+/// An attribute of a class: its number from 1 on, its width in bytes, and the manager's rights on
+/// it.
 #[derive(Clone, Copy, Debug, PartialEq, Eq)]
 pub struct Attribute {
     pub number: u8,
@@ -16,8 +18,8 @@ pub struct Attribute {
     pub access: Access,
 }
 
-/// A class of the profile. Its attributes are numbered from 1 without gaps, each has 1 to 25 bytes, and those that a create sets have at
-/// most 32 bytes together.
+/// A class of the profile. Its attributes are numbered from 1 without gaps, each has 1 to 25 bytes,
+/// and those that a create sets have at most 32 bytes together.
 #[derive(Clone, Copy, Debug)]
 pub struct Class {
     kind: Kind,
@@ -38,7 +40,7 @@ impl Model for Class {
 
 impl Class {
     ghost use Rattle.entity_classes.specs.Kinds.{row_of};
-    ghost use Rattle.entity_classes.specs.Rule.{IsRow, attribute_of};
+    ghost use Rattle.entity_classes.specs.Rule.{IsRow, attribute_of, allows, whole_width};
 
     pub(crate) fn of(kind: Kind) -> Class
         ensures { result ≡ row_of kind }
@@ -90,13 +92,44 @@ impl Class {
         shapes(self.kind).len() as u8
     }
 
-    /// The attribute of this number. None exactly where the number is 0 or above `count`.
+    /// The bytes of the values of all attributes together.
+    #[tactic(auto, unfolding(crate::specs::Kinds::row_of, class_spec::specs::Classes::class_row, class_spec::specs::Classes::class_table))]
+    pub fn width(&self) -> usize
+        ensures width { result ≡ whole_width self.now.attributes }
+        ensures most { result ≤ WIDEST_CLASS }
+    {
+        match self.kind {
+            Kind::OnuData => 1,
+            Kind::SoftwareImage => 17,
+            Kind::EthernetUni => 13,
+            Kind::BridgeService => 17,
+            Kind::BridgePort => 24,
+            Kind::VlanFilter => 26,
+            Kind::Mapper => 45,
+            Kind::OnuG => 31,
+            Kind::Onu2G => 31,
+            Kind::TCont => 4,
+            Kind::GemInterworking => 12,
+            Kind::GemPort => 13,
+            Kind::GalEthernet => 2,
+        }
+    }
+
+    /// The attribute of this number. None exactly where the number is 0 or above `count`. Its
+    /// access contains `WRITE` exactly where the attribute may be written, and `SET_BY_CREATE`
+    /// exactly where a create sets it. It takes no memory.
     pub fn attribute(&self, number: u8) -> Option<Attribute>
         ensures value { result ≡ option_map attribute_of (attribute_in self.now.attributes number) }
         ensures place { 0 < number
             → result ≡ option_map attribute_of (slice_get self.now.attributes (number - 1)) }
         ensures there { IsSome result ↔ ((0 < number) × (number ≤ length self.now.attributes)) }
         ensures numbered { IfSome result (λ attribute. attribute.number ≡ number) }
+        ensures read { IfSome result (λ attribute. allows attribute.access Access.READ ≡ true) }
+        ensures written { (one : Listed) → attribute_in self.now.attributes number ≡ Some one
+            → IfSome result (λ attribute. allows attribute.access Access.WRITE ≡ one.written) }
+        ensures created { (one : Listed) → attribute_in self.now.attributes number ≡ Some one
+            → IfSome result
+            (λ attribute. allows attribute.access Access.SET_BY_CREATE ≡ one.created) }
         ensures rule { IsRow self.now }
     {
         let shapes = shapes(self.kind);

@@ -121,6 +121,7 @@ const GEM_PORT: [(u8, Access); 8] = [
 
 const GAL_ETHERNET: [(u8, Access); 1] = [(2, C)];
 
+/// A class of the profile, by its name.
 #[derive(Clone, Copy, Debug)]
 pub(crate) enum Kind {
     OnuData,
@@ -138,8 +139,9 @@ pub(crate) enum Kind {
     GalEthernet,
 }
 
+/// The class of this number.
 #[tactic(auto, unfolding(crate::specs::Kinds::row_of, class_spec::specs::Classes::class_row, class_spec::specs::Classes::class_table))]
-pub(crate) fn found(number: u16) -> Option<Kind>
+pub(crate) fn find(number: u16) -> Option<Kind>
     ensures { option_map row_of result ≡ class_row number }
 {
     match number {
@@ -160,6 +162,7 @@ pub(crate) fn found(number: u16) -> Option<Kind>
     }
 }
 
+/// The width and the rights of each attribute, in order.
 #[tactic(auto, unfolding(crate::specs::Kinds::row_of, class_spec::specs::Classes::class_row, class_spec::specs::Classes::class_table))]
 pub(crate) fn shapes(kind: Kind) -> &'static [(u8, Access)]
     ensures { result.now ≡ map listed_as (row_of kind).attributes }
@@ -181,6 +184,7 @@ pub(crate) fn shapes(kind: Kind) -> &'static [(u8, Access)]
     }
 }
 
+/// The shape in this place, from 0 on.
 pub(crate) fn shape_at(shapes: &[(u8, Access)], place: usize) -> Option<(u8, Access)>
     ensures { result ≡ slice_get shapes.now place }
 {

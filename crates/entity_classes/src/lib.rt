@@ -1,4 +1,5 @@
-//! The managed entity classes of this profile (ITU-T G.988, clause 9): who makes each, and its attributes with their widths and access.
+//! The managed entity classes of this profile (ITU-T G.988, clause 9): who makes each, and its
+//! attributes with their widths and access.
 #![tactic(auto)]
 
 mod access;
@@ -10,6 +11,3 @@ pub use access::Access;
 pub use class_spec::Maker;
 pub use classes::{Attribute, Class};
 pub use lookup::class;
-
-#[cfg(test)]
-mod tests;

@@ -1,4 +1,5 @@
-//! Times the unit's database: 100,000 gets and as many sets at 4,096 entities over all classes that the manager makes.
+//! Times the unit's database: 100,000 gets and as many sets at 4,096 entities over all classes that
+//! the manager makes.
 #![tactic(auto)]
 
 use mib_store::{Mask, Mib, NoMemory};
@@ -55,7 +56,8 @@ fn run(alloc: Global) -> Result<Outcome, NoMemory> {
     let mut gets = 0u32;
     let mut sets = 0u32;
     for turn in 0..TIMES {
-        // A step that has no factor in common with the number of entities, so that the places are spread.
+        // A step that has no factor in common with the number of entities, so that the places are
+        // spread.
         let place = turn % 4085 * 1009 % 4085;
         let mask = mask(place);
         if mib

@@ -1,1 +1,3 @@
-mod Rows
+pub mod Others
+pub mod Counting
+pub mod UnitEntities

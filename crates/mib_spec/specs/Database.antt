@@ -1,5 +1,7 @@
--- The unit's database (ITU-T G.988, clause 9.1.3): a finite map from entity to its maker and to a finite map from attribute number to bytes.
-use Rattle.std.specs.Prelude.{ℕ, ◌+◌, ◌==◌, List, [], ◌∷◌, ◌++◌, Option, Some, None, if◌then◌else◌, replicate, codes, map, Bool, is_some}
+-- The unit's database (ITU-T G.988, clause 9.1.3): a finite map from entity to its maker and to a
+-- finite map from attribute number to bytes.
+use Rattle.std.specs.Prelude.{ℕ, ◌+◌, ◌==◌, List, [], ◌∷◌, ◌++◌, Option, Some, None, if◌then◌else◌, replicate, codes, map, Bool, true, false, is_some}
+use Rattle.std.specs.List.{list_all}
 use Rattle.std.specs.Option.{option_map_or}
 use Rattle.std.specs.declared.cmp.Ordering.{Ordering}
 use Rattle.std.specs.Ordering.{nat_cmp, ordering_then}
@@ -9,7 +11,8 @@ use Rattle.omci_types.specs.declared.EntityId.{EntityId}
 use Rattle.omci_types.specs.declared.SlotView.{SlotView}
 use Rattle.omci_types.specs.declared.Software.{Software}
 use Rattle.class_spec.specs.declared.Maker.{Maker}
-use Rattle.class_spec.specs.declared.Maker.TheVariants.{Unit as by_unit}
+use Rattle.class_spec.specs.declared.Maker.TheVariants.{Unit as by_unit, Manager as by_manager}
+use Rattle.class_spec.specs.declared.TheConstants.{ONU_DATA}
 use Rattle.class_spec.specs.Classes.{Attribute, class_row}
 
 -- from attribute number to bytes, in ascending order of the number
@@ -33,11 +36,11 @@ abbrev pub entity : ℕ → ℕ → EntityId
 entity class instance = record { class = class; instance = instance }
 
 -- what the database has of an entity
-unfoldable pub held : EntityId → Database → Option Managed
-held one database = lookup (is_at (entity_cmp one)) database
+unfoldable pub managed_of : EntityId → Database → Option Managed
+managed_of one database = lookup (is_at (entity_cmp one)) database
 
 abbrev pub is_held : EntityId → Database → Bool
-is_held one database = is_some (held one database)
+is_held one database = is_some (managed_of one database)
 
 -- the database with an entity more, every other as it was
 unfoldable pub with_entity : EntityId → Managed → Database → Database
@@ -57,12 +60,17 @@ zeros_of class = option_map_or (λ row. zeros row.attributes) (class_row class) 
 
 -- the values of an entity, and zeros for one that isn't there
 unfoldable pub values_of : EntityId → Database → Values
-values_of one database = option_map_or (λ managed. managed.values) (held one database) (zeros_of one.class)
+values_of one database = option_map_or (λ managed. managed.values) (managed_of one database) (zeros_of one.class)
 
 -- the database with other values of an entity that is there, every other as it was
 unfoldable pub with_values : EntityId → Values → Database → Database
 with_values one values database =
-    option_map_or (λ managed. set_value (is_at (entity_cmp one)) database (record managed { values = values })) (held one database) database
+    option_map_or (λ managed. set_value (is_at (entity_cmp one)) database (record managed { values = values })) (managed_of one database) database
+
+-- the bytes of all values, one after the other in attribute order
+abbrev pub bytes_of : Values → List ℕ
+bytes_of [] = []
+bytes_of (one ∷ rest) = one.1 ++ bytes_of rest
 
 -- the value of an attribute, where there is one
 abbrev pub value_at : ℕ → Values → Option (List ℕ)
@@ -72,10 +80,6 @@ value_at number values = lookup (λ key. key == number) values
 abbrev pub with_value : ℕ → List ℕ → Values → Values
 with_value number bytes values = set_value (λ key. key == number) values bytes
 
--- ONU data, whose attribute 1 is the counter, MIB data sync
-abbrev pub onu_data : EntityId
-onu_data = entity 2 0
-
 -- the first byte of a value, 0 where there is none
 abbrev pub byte_of : Option (List ℕ) → ℕ
 byte_of None = 0
@@ -84,19 +88,19 @@ byte_of (Some (byte ∷ rest)) = byte
 
 -- the counter: the value of attribute 1 of ONU data
 unfoldable pub counter : Database → ℕ
-counter database = byte_of (value_at 1 (values_of onu_data database))
+counter database = byte_of (value_at 1 (values_of ONU_DATA database))
 
 -- the database with this counter, and else as it was
 unfoldable pub with_counter : ℕ → Database → Database
-with_counter count database = with_values onu_data (with_value 1 (count ∷ []) (values_of onu_data database)) database
+with_counter count database = with_values ONU_DATA (with_value 1 (count ∷ []) (values_of ONU_DATA database)) database
 
 -- the counter is one more, and 1 after 255
 abbrev pub bump : ℕ → ℕ
 bump count = if count == 255 then 1 else count + 1
 
 -- the database whose counter has grown
-unfoldable pub grown : Database → Database
-grown database = with_counter (bump (counter database)) database
+unfoldable pub with_counter_grown : Database → Database
+with_counter_grown database = with_counter (bump (counter database)) database
 
 -- the slot's image, where it is valid
 abbrev pub slot : ℕ → Software → Option SlotView
@@ -105,7 +109,8 @@ slot number software = if number == 0 then software.first else software.second
 abbrev pub flag : Bool → List ℕ
 flag on = (if on then 1 else 0) ∷ []
 
--- a software image's version, whether it is committed, whether it is active, and whether it is valid
+-- a software image's version, whether it is committed, whether it is active, and whether it is
+-- valid
 unfoldable pub image_values : ℕ → Software → Values
 image_values number software =
     (1, option_map_or (λ view. view.version) (slot number software) (replicate 14 0)) ∷
@@ -123,8 +128,8 @@ with_software software database =
     with_values (image_entity 1) (image_values 1 software) (with_values (image_entity 0) (image_values 0 software) database)
 
 -- an entity that the unit makes, with these values
-abbrev pub made : ℕ → ℕ → Values → EntityId × Managed
-made class instance values = (entity class instance, record { maker = by_unit; values = values })
+abbrev pub unit_entity : ℕ → ℕ → Values → EntityId × Managed
+unit_entity class instance values = (entity class instance, record { maker = by_unit; values = values })
 
 -- a PPTP Ethernet UNI at first: frames of at most 1518 bytes
 unfoldable pub ethernet : Values
@@ -142,20 +147,48 @@ onu2_g = with_value 2 (160 ∷ []) (with_value 4 (1 ∷ []) (with_value 5 (1 ∷
 unfoldable pub t_cont : Values
 t_cont = with_value 1 (0 ∷ 255 ∷ []) (with_value 3 (1 ∷ []) (zeros_of 262))
 
+-- the eleven entities that the unit makes when it starts, in ascending order
+abbrev pub unit_entities : List EntityId
+unit_entities =
+    ONU_DATA ∷
+    image_entity 0 ∷
+    image_entity 1 ∷
+    entity 11 257 ∷
+    entity 11 258 ∷
+    entity 11 259 ∷
+    entity 11 260 ∷
+    entity 256 0 ∷
+    entity 257 0 ∷
+    entity 262 32769 ∷
+    entity 262 32770 ∷
+    []
+
+abbrev pub is_by_unit : Maker → Bool
+is_by_unit by_unit = true
+is_by_unit by_manager = false
+
+-- whether the entity is there and the unit has made it
+abbrev pub is_made_by_unit : Database → EntityId → Bool
+is_made_by_unit database one = option_map_or (λ managed. is_by_unit managed.maker) (managed_of one database) false
+
+-- whether the database has each of the eleven, made by the unit
+unfoldable pub has_unit_entities : Database → Bool
+has_unit_entities database = list_all (is_made_by_unit database) unit_entities
+
 -- the first database, with these values of the two software images
 unfoldable pub first_with : Values → Values → Database
 first_with image image' =
-    made 2 0 (zeros_of 2) ∷
-    made 7 0 image ∷
-    made 7 1 image' ∷
-    made 11 257 ethernet ∷
-    made 11 258 ethernet ∷
-    made 11 259 ethernet ∷
-    made 11 260 ethernet ∷
-    made 256 0 onu_g ∷
-    made 257 0 onu2_g ∷
-    made 262 32769 t_cont ∷
-    made 262 32770 t_cont ∷
+    unit_entity 2 0 (zeros_of 2) ∷
+    unit_entity 7 0 image ∷
+    unit_entity 7 1 image' ∷
+    unit_entity 11 257 ethernet ∷
+    unit_entity 11 258 ethernet ∷
+    unit_entity 11 259 ethernet ∷
+    unit_entity 11 260 ethernet ∷
+    unit_entity 256 0 onu_g ∷
+    unit_entity 257 0 onu2_g ∷
+    unit_entity 262 32769 t_cont ∷
+    unit_entity 262 32770 t_cont ∷
     []
 
 -- the first database

@@ -11,3 +11,9 @@ pub enum Sensed {
     /// The attribute holds the value now.
     Changed,
 }
+
+/// No database has more entities.
+pub const MOST_ENTITIES: usize = 4096;
+
+/// How many entities the unit makes when it starts. No request removes one of them.
+pub const UNIT_ENTITIES: usize = 11;

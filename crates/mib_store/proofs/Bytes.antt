@@ -6,10 +6,10 @@ use Rattle.class_spec.specs.Classes.{Attribute}
 use Rattle.class_spec.specs.Masks.{width_where}
 use Rattle.entity_classes.specs.Rule.{whole_width}
 use Rattle.omci_attributes.proofs.Sums.{none_left, width-step}
-use Rattle.mib_spec.specs.Requests.{filled}
+use Rattle.mib_spec.specs.Requests.{with_zeros}
 use Rattle.mib_store.proofs.Counter.{drop_zeros}
 use Rattle.mib_store.specs.declared.layout.Step.{Step}
-use Rattle.mib_store.specs.Layout.{picked, overwritten}
+use Rattle.mib_store.specs.Layout.{chosen_bytes, with_chosen}
 use Rattle.mib_store.specs.Step.{IsStep}
 
 -- what a call that puts the bytes where they are picked has done
@@ -31,19 +31,19 @@ module _ (passes : Attribute → Bool) (attributes : List Attribute) (n : ℕ) (
   width_goes = width-step passes attributes n is.one step.picked is.rest (sym is.picked)
       ∙ ap (λ w. cond step.picked w 0 + width_where passes (drop (n + 1) attributes)) (sym is.width)
 
-  overwritten_goes : (given bytes : List ℕ) → overwritten passes (drop n attributes) given bytes
-      ≡ cond step.picked (take step.width given) (take step.width bytes) ++ overwritten passes (drop (n + 1) attributes) (cond step.picked (drop step.width given) given) (drop step.width bytes)
+  overwritten_goes : (given bytes : List ℕ) → with_chosen passes (drop n attributes) given bytes
+      ≡ cond step.picked (take step.width given) (take step.width bytes) ++ with_chosen passes (drop (n + 1) attributes) (cond step.picked (drop step.width given) given) (drop step.width bytes)
   overwritten_goes given bytes =
-      ap (λ (l : List Attribute). overwritten passes l given bytes) is.rest
-      ∙ ap (λ b. cond b (take is.one.width given) (take is.one.width bytes) ++ overwritten passes (drop (n + 1) attributes) (cond b (drop is.one.width given) given) (drop is.one.width bytes)) (sym is.picked)
-      ∙ ap (λ w. cond step.picked (take w given) (take w bytes) ++ overwritten passes (drop (n + 1) attributes) (cond step.picked (drop w given) given) (drop w bytes)) (sym is.width)
+      ap (λ (l : List Attribute). with_chosen passes l given bytes) is.rest
+      ∙ ap (λ b. cond b (take is.one.width given) (take is.one.width bytes) ++ with_chosen passes (drop (n + 1) attributes) (cond b (drop is.one.width given) given) (drop is.one.width bytes)) (sym is.picked)
+      ∙ ap (λ w. cond step.picked (take w given) (take w bytes) ++ with_chosen passes (drop (n + 1) attributes) (cond step.picked (drop w given) given) (drop w bytes)) (sym is.width)
 
-  picked_goes : (bytes : List ℕ) → picked passes (drop n attributes) bytes
-      ≡ cond step.picked (take step.width bytes) [] ++ picked passes (drop (n + 1) attributes) (drop step.width bytes)
+  picked_goes : (bytes : List ℕ) → chosen_bytes passes (drop n attributes) bytes
+      ≡ cond step.picked (take step.width bytes) [] ++ chosen_bytes passes (drop (n + 1) attributes) (drop step.width bytes)
   picked_goes bytes =
-      ap (λ (l : List Attribute). picked passes l bytes) is.rest
-      ∙ ap (λ b. cond b (take is.one.width bytes) [] ++ picked passes (drop (n + 1) attributes) (drop is.one.width bytes)) (sym is.picked)
-      ∙ ap (λ w. cond step.picked (take w bytes) [] ++ picked passes (drop (n + 1) attributes) (drop w bytes)) (sym is.width)
+      ap (λ (l : List Attribute). chosen_bytes passes l bytes) is.rest
+      ∙ ap (λ b. cond b (take is.one.width bytes) [] ++ chosen_bytes passes (drop (n + 1) attributes) (drop is.one.width bytes)) (sym is.picked)
+      ∙ ap (λ w. cond step.picked (take w bytes) [] ++ chosen_bytes passes (drop (n + 1) attributes) (drop w bytes)) (sym is.width)
 
   module _ (given before after : List ℕ) (at from put : ℕ) where
     abbrev part : List ℕ
@@ -51,14 +51,14 @@ module _ (passes : Attribute → Bool) (attributes : List Attribute) (n : ℕ) (
 
     -- a value is written, or stays
     pub written_step : from + width_where passes (drop n attributes) ≤ length given → Puts step.picked (take step.width (drop from given)) before after at put
-        → take (at + step.width) after ++ overwritten passes (drop (n + 1) attributes) (drop (from + put) given) (drop (at + step.width) after)
-        ≡ take at before ++ overwritten passes (drop n attributes) (drop from given) (drop at before)
+        → take (at + step.width) after ++ with_chosen passes (drop (n + 1) attributes) (drop (from + put) given) (drop (at + step.width) after)
+        ≡ take at before ++ with_chosen passes (drop n attributes) (drop from given) (drop at before)
     written_step room puts = go step.picked refl
       where
         O : List ℕ → List ℕ → List ℕ
-        O = λ g b. overwritten passes (drop (n + 1) attributes) g b
+        O = λ g b. with_chosen passes (drop (n + 1) attributes) g b
 
-        go : (b : Bool) → step.picked ≡ b → take (at + step.width) after ++ O (drop (from + put) given) (drop (at + step.width) after) ≡ take at before ++ overwritten passes (drop n attributes) (drop from given) (drop at before)
+        go : (b : Bool) → step.picked ≡ b → take (at + step.width) after ++ O (drop (from + put) given) (drop (at + step.width) after) ≡ take at before ++ with_chosen passes (drop n attributes) (drop from given) (drop at before)
         go true on =
             let w : ℕ = step.width in
             let wide : from + w ≤ length given = omega (arith, room, width_goes, ap (λ b. cond b step.width 0) on) in
@@ -101,16 +101,16 @@ module _ (passes : Attribute → Bool) (attributes : List Attribute) (n : ℕ) (
     value_length : length value ≡ step.width
     value_length = omega (arith, room, whole_goes, length-take step.width (drop from values), length-drop from values)
 
-    pub gathered_step : take (to + put) after ++ picked passes (drop (n + 1) attributes) (drop (from + step.width) values) ≡ take to before ++ picked passes (drop n attributes) (drop from values)
+    pub gathered_step : take (to + put) after ++ chosen_bytes passes (drop (n + 1) attributes) (drop (from + step.width) values) ≡ take to before ++ chosen_bytes passes (drop n attributes) (drop from values)
     gathered_step = go step.picked refl
       where
         w : ℕ
         w = step.width
 
         P : List ℕ → List ℕ
-        P = λ b. picked passes (drop (n + 1) attributes) b
+        P = λ b. chosen_bytes passes (drop (n + 1) attributes) b
 
-        go : (b : Bool) → step.picked ≡ b → take (to + put) after ++ P (drop (from + w) values) ≡ take to before ++ picked passes (drop n attributes) (drop from values)
+        go : (b : Bool) → step.picked ≡ b → take (to + put) after ++ P (drop (from + w) values) ≡ take to before ++ chosen_bytes passes (drop n attributes) (drop from values)
         go true on =
             let put_is : put ≡ length value = puts.count ∙ ap (λ b. cond b (length value) 0) on in
             let written : take (to + put) after ≡ take to before ++ value = ap (λ k. take (to + k) after) put_is ∙ puts.front on in
@@ -147,12 +147,12 @@ module _ (passes : Attribute → Bool) (attributes : List Attribute) (n : ℕ) (
             subst (λ k. drop k after ≡ replicate (25 - k) 0) put_is (ap (λ x. drop to x) (puts.off on) ∙ zeros)
 
 -- the end of each loop
-pub gathered_end : (passes : Attribute → Bool) (attributes : List Attribute) (n to : ℕ) (into rest whole : List ℕ) → length attributes ≤ n → length into ≡ 25 → to ≤ 25 → take to into ++ picked passes (drop n attributes) rest ≡ whole → drop to into ≡ replicate (25 - to) 0 → into ≡ filled 25 whole
+pub gathered_end : (passes : Attribute → Bool) (attributes : List Attribute) (n to : ℕ) (into rest whole : List ℕ) → length attributes ≤ n → length into ≡ 25 → to ≤ 25 → take to into ++ chosen_bytes passes (drop n attributes) rest ≡ whole → drop to into ≡ replicate (25 - to) 0 → into ≡ with_zeros 25 whole
 gathered_end passes attributes n to into rest whole le wide small is zeros =
-    let front : take to into ≡ whole = sym (append-nil (take to into)) ∙ ap (λ (l : List Attribute). take to into ++ picked passes l rest) (sym (none_left attributes n le)) ∙ is in
+    let front : take to into ≡ whole = sym (append-nil (take to into)) ∙ ap (λ (l : List Attribute). take to into ++ chosen_bytes passes l rest) (sym (none_left attributes n le)) ∙ is in
     let len : to ≡ length whole = sym (length-take-le to into (omega arith)) ∙ ap length front in
     sym (take-append-drop to into) ∙ ap (λ x. x ++ drop to into) front ∙ ap (λ x. whole ++ x) zeros ∙ ap (λ k. whole ++ replicate (25 - k) 0) len
 
-pub written_end : (passes : Attribute → Bool) (attributes : List Attribute) (n at : ℕ) (after given whole : List ℕ) → length attributes ≤ n → take at after ++ overwritten passes (drop n attributes) given (drop at after) ≡ whole → after ≡ whole
+pub written_end : (passes : Attribute → Bool) (attributes : List Attribute) (n at : ℕ) (after given whole : List ℕ) → length attributes ≤ n → take at after ++ with_chosen passes (drop n attributes) given (drop at after) ≡ whole → after ≡ whole
 written_end passes attributes n at after given whole le is =
-    sym (take-append-drop at after) ∙ ap (λ (l : List Attribute). take at after ++ overwritten passes l given (drop at after)) (sym (none_left attributes n le)) ∙ is
+    sym (take-append-drop at after) ∙ ap (λ (l : List Attribute). take at after ++ with_chosen passes l given (drop at after)) (sym (none_left attributes n le)) ∙ is

@@ -8,8 +8,8 @@ use Rattle.class_spec.specs.Classes.{Row, Attribute, class_row, attribute_in}
 use Rattle.class_spec.specs.Masks.{unknown_mask, fixed_mask, width_of}
 use Rattle.entity_classes.specs.declared.classes.Attribute.{Attribute as Read}
 use Rattle.entity_classes.specs.Rule.{attribute_of}
-use Rattle.mib_spec.specs.Database.{Database, Managed, held}
-use Rattle.mib_spec.specs.Requests.{first_code, is_by_unit, is_unit_made, create_code, delete_code, set_code, get_code, may_sense}
+use Rattle.mib_spec.specs.Database.{is_by_unit, Database, Managed, managed_of}
+use Rattle.mib_spec.specs.Requests.{first_code, is_unit_made, create_code, delete_code, set_code, get_code, may_sense}
 
 module _ (one : EntityId) (database : Database) where
   create_by : Option Row → Option Managed → Bool → ℕ
@@ -20,7 +20,7 @@ module _ (one : EntityId) (database : Database) where
 
   pub create_unknown : class_row one.class ≡ None → create_code one database ≡ 4
   unfolding create_code create_by
-  create_unknown row = ap (λ o. create_by o (held one database) (nat_le 4096 (length database))) row
+  create_unknown row = ap (λ o. create_by o (managed_of one database) (nat_le 4096 (length database))) row
 
   delete_by : Option Row → Option Managed → ℕ
   delete_by row managed = first_code ((not (is_some row), 4) ∷ (option_map_or (λ r. is_by_unit r.maker) row false, 2) ∷ (not (is_some managed), 5) ∷ [])
@@ -30,54 +30,54 @@ module _ (one : EntityId) (database : Database) where
 
   pub delete_unknown : class_row one.class ≡ None → delete_code one database ≡ 4
   unfolding delete_code delete_by
-  delete_unknown row = ap (λ o. delete_by o (held one database)) row
+  delete_unknown row = ap (λ o. delete_by o (managed_of one database)) row
 
   module _ (r : Row) (row : class_row one.class ≡ Some r) where
-    create_of : create_code one database ≡ create_tests (is_by_unit r.maker) (held one database) (nat_le 4096 (length database))
+    create_of : create_code one database ≡ create_tests (is_by_unit r.maker) (managed_of one database) (nat_le 4096 (length database))
     unfolding create_code create_by create_tests
-    create_of = ap (λ o. create_by o (held one database) (nat_le 4096 (length database))) row
+    create_of = ap (λ o. create_by o (managed_of one database) (nat_le 4096 (length database))) row
 
     pub create_unit : is_by_unit r.maker ≡ true → create_code one database ≡ 2
     unfolding create_tests
-    create_unit unit = create_of ∙ ap (λ b. create_tests b (held one database) (nat_le 4096 (length database))) unit
+    create_unit unit = create_of ∙ ap (λ b. create_tests b (managed_of one database) (nat_le 4096 (length database))) unit
 
-    pub create_there : is_by_unit r.maker ≡ false → (m : Managed) → held one database ≡ Some m → create_code one database ≡ 7
+    pub create_there : is_by_unit r.maker ≡ false → (m : Managed) → managed_of one database ≡ Some m → create_code one database ≡ 7
     unfolding create_tests
     create_there unit m there =
-        create_of ∙ ap (λ b. create_tests b (held one database) (nat_le 4096 (length database))) unit ∙ ap (λ o. create_tests false o (nat_le 4096 (length database))) there
+        create_of ∙ ap (λ b. create_tests b (managed_of one database) (nat_le 4096 (length database))) unit ∙ ap (λ o. create_tests false o (nat_le 4096 (length database))) there
 
-    pub create_full : is_by_unit r.maker ≡ false → held one database ≡ None → 4096 ≤ length database → create_code one database ≡ 1
+    pub create_full : is_by_unit r.maker ≡ false → managed_of one database ≡ None → 4096 ≤ length database → create_code one database ≡ 1
     unfolding create_tests
     create_full unit none full =
         let b : nat_le 4096 (length database) ≡ true = grind (arith, nat_tests) in
-        create_of ∙ ap (λ b. create_tests b (held one database) (nat_le 4096 (length database))) unit ∙ ap (λ o. create_tests false o (nat_le 4096 (length database))) none
+        create_of ∙ ap (λ b. create_tests b (managed_of one database) (nat_le 4096 (length database))) unit ∙ ap (λ o. create_tests false o (nat_le 4096 (length database))) none
         ∙ ap (create_tests false None) b
 
-    pub create_done : is_by_unit r.maker ≡ false → held one database ≡ None → length database < 4096 → create_code one database ≡ 0
+    pub create_done : is_by_unit r.maker ≡ false → managed_of one database ≡ None → length database < 4096 → create_code one database ≡ 0
     unfolding create_tests
     create_done unit none few =
         let b : nat_le 4096 (length database) ≡ false = grind (arith, nat_tests) in
-        create_of ∙ ap (λ b. create_tests b (held one database) (nat_le 4096 (length database))) unit ∙ ap (λ o. create_tests false o (nat_le 4096 (length database))) none
+        create_of ∙ ap (λ b. create_tests b (managed_of one database) (nat_le 4096 (length database))) unit ∙ ap (λ o. create_tests false o (nat_le 4096 (length database))) none
         ∙ ap (create_tests false None) b
 
     pub unit_made_by : is_unit_made one.class ≡ is_by_unit r.maker
     unit_made_by = ap (λ o. option_map_or (λ (x : Row). is_by_unit x.maker) o false) row
 
-    delete_of : delete_code one database ≡ delete_tests (is_by_unit r.maker) (held one database)
+    delete_of : delete_code one database ≡ delete_tests (is_by_unit r.maker) (managed_of one database)
     unfolding delete_code delete_by delete_tests
-    delete_of = ap (λ o. delete_by o (held one database)) row
+    delete_of = ap (λ o. delete_by o (managed_of one database)) row
 
     pub delete_unit : is_by_unit r.maker ≡ true → delete_code one database ≡ 2
     unfolding delete_tests
-    delete_unit unit = delete_of ∙ ap (λ b. delete_tests b (held one database)) unit
+    delete_unit unit = delete_of ∙ ap (λ b. delete_tests b (managed_of one database)) unit
 
-    pub delete_absent : is_by_unit r.maker ≡ false → held one database ≡ None → delete_code one database ≡ 5
+    pub delete_absent : is_by_unit r.maker ≡ false → managed_of one database ≡ None → delete_code one database ≡ 5
     unfolding delete_tests
-    delete_absent unit none = delete_of ∙ ap (λ b. delete_tests b (held one database)) unit ∙ ap (delete_tests false) none
+    delete_absent unit none = delete_of ∙ ap (λ b. delete_tests b (managed_of one database)) unit ∙ ap (delete_tests false) none
 
-    pub delete_done : is_by_unit r.maker ≡ false → (m : Managed) → held one database ≡ Some m → delete_code one database ≡ 0
+    pub delete_done : is_by_unit r.maker ≡ false → (m : Managed) → managed_of one database ≡ Some m → delete_code one database ≡ 0
     unfolding delete_tests
-    delete_done unit m there = delete_of ∙ ap (λ b. delete_tests b (held one database)) unit ∙ ap (delete_tests false) there
+    delete_done unit m there = delete_of ∙ ap (λ b. delete_tests b (managed_of one database)) unit ∙ ap (delete_tests false) there
 
   -- of a class, what the row says
   pub of_row : (f : Row → ℕ → ℕ) (mask : ℕ) (r : Row) → class_row one.class ≡ Some r → option_map_or (λ x. f x mask) (class_row one.class) 0 ≡ f r mask
@@ -97,28 +97,28 @@ module _ (one : EntityId) (database : Database) where
 
   pub set_unknown : class_row one.class ≡ None → (mask : ℕ) (given : List ℕ) → set_code one mask given database ≡ 4
   unfolding set_code set_by
-  set_unknown row mask given = ap (λ o. set_by o (held one database) mask given) row
+  set_unknown row mask given = ap (λ o. set_by o (managed_of one database) mask given) row
 
   pub get_unknown : class_row one.class ≡ None → (room mask : ℕ) → get_code room one mask database ≡ 4
   unfolding get_code get_by
-  get_unknown row room mask = ap (λ o. get_by o (held one database) room mask) row
+  get_unknown row room mask = ap (λ o. get_by o (managed_of one database) room mask) row
 
   module _ (r : Row) (row : class_row one.class ≡ Some r) where
-    pub set_absent : held one database ≡ None → (mask : ℕ) (given : List ℕ) → set_code one mask given database ≡ 5
+    pub set_absent : managed_of one database ≡ None → (mask : ℕ) (given : List ℕ) → set_code one mask given database ≡ 5
     unfolding set_code set_by
-    set_absent none mask given = ap (λ o. set_by o (held one database) mask given) row ∙ ap (λ o. set_by (Some r) o mask given) none
+    set_absent none mask given = ap (λ o. set_by o (managed_of one database) mask given) row ∙ ap (λ o. set_by (Some r) o mask given) none
 
-    pub get_absent : held one database ≡ None → (room mask : ℕ) → get_code room one mask database ≡ 5
+    pub get_absent : managed_of one database ≡ None → (room mask : ℕ) → get_code room one mask database ≡ 5
     unfolding get_code get_by
-    get_absent none room mask = ap (λ o. get_by o (held one database) room mask) row ∙ ap (λ o. get_by (Some r) o room mask) none
+    get_absent none room mask = ap (λ o. get_by o (managed_of one database) room mask) row ∙ ap (λ o. get_by (Some r) o room mask) none
 
-    module _ (m : Managed) (there : held one database ≡ Some m) (mask : ℕ) where
+    module _ (m : Managed) (there : managed_of one database ≡ Some m) (mask : ℕ) where
       set_tests : Bool → Bool → Bool → ℕ
       set_tests no_unknown no_fixed wide = cond (not (no_unknown && no_fixed)) 9 (cond wide 3 0)
 
       set_of : (given : List ℕ) → set_code one mask given database ≡ set_tests (unknown_mask r mask == 0) (fixed_mask r mask == 0) (nat_lt (length given) (width_of r mask))
       unfolding set_code set_by set_tests
-      set_of given = ap (λ o. set_by o (held one database) mask given) row ∙ ap (λ o. set_by (Some r) o mask given) there
+      set_of given = ap (λ o. set_by o (managed_of one database) mask given) row ∙ ap (λ o. set_by (Some r) o mask given) there
 
       pub set_attributes : (given : List ℕ) → (unknown_mask r mask == 0 && fixed_mask r mask == 0) ≡ false → set_code one mask given database ≡ 9
       unfolding set_tests
@@ -138,7 +138,7 @@ module _ (one : EntityId) (database : Database) where
 
       get_of : (room : ℕ) → get_code room one mask database ≡ cond (nat_lt room (width_of r mask)) 3 (cond (not (unknown_mask r mask == 0)) 9 0)
       unfolding get_code get_by
-      get_of room = ap (λ o. get_by o (held one database) room mask) row ∙ ap (λ o. get_by (Some r) o room mask) there
+      get_of room = ap (λ o. get_by o (managed_of one database) room mask) row ∙ ap (λ o. get_by (Some r) o room mask) there
 
       pub get_wide : (room : ℕ) → room < width_of r mask → get_code room one mask database ≡ 3
       get_wide room wide =
@@ -169,7 +169,7 @@ attribute_found None read e = absurd cc
 attribute_found (Some one) read e = record { one = one; is = cc; found = refl }
 
 all_of : Bool → Bool → Bool → Bool → Bool
-all_of held two seven fits = held && not two && not seven && fits
+all_of managed_of two seven fits = managed_of && not two && not seven && fits
 
 off_two : (h s f : Bool) → all_of h true s f ≡ false
 unfolding all_of
@@ -200,23 +200,23 @@ module _ (one : EntityId) (number : ℕ) (value : List ℕ) (database : Database
   unfolding may_sense fits_by all_of
   sense_two two =
       let b : (one.class == 2) ≡ true = grind (arith, nat_tests) in
-      ap (λ t. all_of (is_some (held one database)) t (one.class == 7) (fits_by (class_row one.class))) b ∙ off_two (is_some (held one database)) (one.class == 7) (fits_by (class_row one.class))
+      ap (λ t. all_of (is_some (managed_of one database)) t (one.class == 7) (fits_by (class_row one.class))) b ∙ off_two (is_some (managed_of one database)) (one.class == 7) (fits_by (class_row one.class))
 
   pub sense_seven : one.class ≡ 7 → may_sense one number value database ≡ false
   unfolding may_sense fits_by all_of
   sense_seven seven =
       let b : (one.class == 7) ≡ true = grind (arith, nat_tests) in
-      ap (λ t. all_of (is_some (held one database)) (one.class == 2) t (fits_by (class_row one.class))) b ∙ off_seven (is_some (held one database)) (one.class == 2) (fits_by (class_row one.class))
+      ap (λ t. all_of (is_some (managed_of one database)) (one.class == 2) t (fits_by (class_row one.class))) b ∙ off_seven (is_some (managed_of one database)) (one.class == 2) (fits_by (class_row one.class))
 
   unfit : fits_by (class_row one.class) ≡ false → may_sense one number value database ≡ false
   unfolding may_sense fits_by all_of
-  unfit b = ap (all_of (is_some (held one database)) (one.class == 2) (one.class == 7)) b ∙ off_fits (is_some (held one database)) (one.class == 2) (one.class == 7)
+  unfit b = ap (all_of (is_some (managed_of one database)) (one.class == 2) (one.class == 7)) b ∙ off_fits (is_some (managed_of one database)) (one.class == 2) (one.class == 7)
 
   pub sense_unknown : class_row one.class ≡ None → may_sense one number value database ≡ false
   unfolding fits_by
   sense_unknown none = unfit (ap fits_by none)
 
-  pub sense_absent : held one database ≡ None → may_sense one number value database ≡ false
+  pub sense_absent : managed_of one database ≡ None → may_sense one number value database ≡ false
   unfolding may_sense
   sense_absent none = ap (λ (o : Option Managed). is_some o && not (one.class == 2) && not (one.class == 7) && option_map_or (λ row. option_map_or (λ attribute. not attribute.written && attribute.width == length value) (attribute_in row.attributes number) false) (class_row one.class) false) none
 
@@ -241,7 +241,7 @@ module _ (one : EntityId) (number : ℕ) (value : List ℕ) (database : Database
           let b : (found.one.width == length value) ≡ false = grind (arith, nat_tests, width) in
           unfit (fits_row ∙ ap fits_in found.found ∙ ap (λ b. not b && found.one.width == length value) fixed ∙ b)
 
-      pub sense_allowed : (m : Managed) → held one database ≡ Some m → one.class ≢ 2 → one.class ≢ 7 → found.one.written ≡ false → read.width ≡ length value → may_sense one number value database ≡ true
+      pub sense_allowed : (m : Managed) → managed_of one database ≡ Some m → one.class ≢ 2 → one.class ≢ 7 → found.one.written ≡ false → read.width ≡ length value → may_sense one number value database ≡ true
       unfolding may_sense all_of fits_by fits_in
       sense_allowed m there two seven fixed same =
           let b2 : (one.class == 2) ≡ false = grind (arith, nat_tests) in

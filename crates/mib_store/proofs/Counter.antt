@@ -5,9 +5,10 @@ use Rattle.std.specs.Prelude.{◌&&◌, ◌==◌, nat_le}
 use Rattle.std.specs.List.{list_all}
 use Rattle.std.proofs.lemmas.Bool.{false≢true}
 use Rattle.std.proofs.lemmas.Bool.Decides.{nat_tests}
+use Rattle.class_spec.specs.declared.TheConstants.{ONU_DATA}
 use Rattle.class_spec.specs.Classes.{Row, Attribute, class_row, class_table, row_in}
 use Rattle.entity_classes.specs.Rule.{whole_width}
-use Rattle.mib_spec.specs.Database.{Database, Values, onu_data, zeros, zeros_of, values_of, with_values, with_value, value_at, byte_of, counter, with_counter, grown, bump}
+use Rattle.mib_spec.specs.Database.{Database, Values, zeros, zeros_of, values_of, with_values, with_value, value_at, byte_of, counter, with_counter, with_counter_grown, bump}
 use Rattle.mib_store.specs.Layout.{cut}
 use Rattle.mib_store.specs.Entries.{values_in}
 
@@ -61,19 +62,19 @@ unfolding values_in zeros_of class_row
 zeros_in class = zeros_found class_table class table_fits
 
 -- the first byte of ONU data is the counter
-pub first_byte : (bytes : List ℕ) (database : Database) → values_in 2 bytes ≡ values_of onu_data database → get_or bytes 0 0 ≡ counter database
+pub first_byte : (bytes : List ℕ) (database : Database) → values_in 2 bytes ≡ values_of ONU_DATA database → get_or bytes 0 0 ≡ counter database
 unfolding values_in class_row class_table counter
 first_byte [] database h = ap (λ (vs : Values). byte_of (value_at 1 vs)) h
 first_byte (x ∷ xs) database h = ap (λ (vs : Values). byte_of (value_at 1 vs)) h
 
 -- another first byte is another counter
-counted : (bytes : List ℕ) (database : Database) (count : ℕ) → 0 < length bytes → values_in 2 bytes ≡ values_of onu_data database → values_in 2 (set bytes 0 count) ≡ with_value 1 (count ∷ []) (values_of onu_data database)
+counted : (bytes : List ℕ) (database : Database) (count : ℕ) → 0 < length bytes → values_in 2 bytes ≡ values_of ONU_DATA database → values_in 2 (set bytes 0 count) ≡ with_value 1 (count ∷ []) (values_of ONU_DATA database)
 unfolding values_in class_row class_table
 counted [] database count lt h = absurd (omega arith)
 counted (x ∷ xs) database count lt h = ap (λ (vs : Values). with_value 1 (count ∷ []) vs) h
 
-pub grown_by : (bytes : List ℕ) (before after : Database) → 0 < length bytes → values_in 2 bytes ≡ values_of onu_data before → after ≡ with_values onu_data (values_in 2 (set bytes 0 (bump (get_or bytes 0 0)))) before → after ≡ grown before
-unfolding grown with_counter
+pub grown_by : (bytes : List ℕ) (before after : Database) → 0 < length bytes → values_in 2 bytes ≡ values_of ONU_DATA before → after ≡ with_values ONU_DATA (values_in 2 (set bytes 0 (bump (get_or bytes 0 0)))) before → after ≡ with_counter_grown before
+unfolding with_counter_grown with_counter
 grown_by bytes before after lt h is =
-    is ∙ ap (λ (vs : Values). with_values onu_data vs before) (counted bytes before (bump (get_or bytes 0 0)) lt h)
-    ∙ ap (λ n. with_values onu_data (with_value 1 (bump n ∷ []) (values_of onu_data before)) before) (first_byte bytes before h)
+    is ∙ ap (λ (vs : Values). with_values ONU_DATA vs before) (counted bytes before (bump (get_or bytes 0 0)) lt h)
+    ∙ ap (λ n. with_values ONU_DATA (with_value 1 (bump n ∷ []) (values_of ONU_DATA before)) before) (first_byte bytes before h)

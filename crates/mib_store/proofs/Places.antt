@@ -11,10 +11,10 @@ use Rattle.std.specs.Map.{lookup, set_value, remove_entry}
 use Rattle.std.specs.BTreeMap.{insert_entry, is_at}
 use Rattle.std.proofs.lemmas.Bool.{cases_lt}
 use Rattle.omci_types.specs.declared.EntityId.{EntityId}
-use Rattle.mib_spec.specs.Database.{Database, Managed, entity_cmp, held, Values, with_entity, without_entity, with_values, values_of, zeros_of}
+use Rattle.mib_spec.specs.Database.{Database, Managed, entity_cmp, managed_of, Values, with_entity, without_entity, with_values, values_of, zeros_of}
 use Rattle.mib_spec.specs.Requests.{is_unit_made}
 use Rattle.mib_store.specs.declared.entry.Entry.{Entry}
-use Rattle.mib_store.specs.Entries.{held_of, seen, keys_of, maker_of, values_in, IsBefore, IsAscending, IsAt, IsGap, unit_made, Inserts, Removes, entry_at, no_entry}
+use Rattle.mib_store.specs.Entries.{held_of, database_of, keys_of, maker_of, values_in, IsBefore, IsAscending, IsAt, IsGap, unit_made, Inserts, Removes, entry_at, no_entry}
 use Rattle.mib_store.proofs.Order.{entity_total, entity_exact, turned, turned_back, ascending_at, rises}
 
 -- those before a place are less than the entity, as the index says
@@ -37,46 +37,46 @@ passed e es q at h = turned e.entity q (h 0 (omega arith))
 tied : (e : Entry) (q : EntityId) → e.entity ≡ q → entity_cmp q e.entity ≡ Equal
 tied e q h = ap (entity_cmp q) h ∙ tied_itself entity_total q
 
-lookup_at : (es : List Entry) (at : ℕ) (q : EntityId) → at < length es → Below es q at → (entry_at es at).entity ≡ q → lookup (is_at (entity_cmp q)) (seen es) ≡ Some (held_of (entry_at es at)).1
+lookup_at : (es : List Entry) (at : ℕ) (q : EntityId) → at < length es → Below es q at → (entry_at es at).entity ≡ q → lookup (is_at (entity_cmp q)) (database_of es) ≡ Some (held_of (entry_at es at)).1
 lookup_at [] at q lt below here = absurd (omega arith)
-lookup_at (e ∷ es) zero q lt below here = ap (λ r. cond (is_eq r) (Some (held_of e).1) (lookup (is_at (entity_cmp q)) (seen es))) (tied e q here)
+lookup_at (e ∷ es) zero q lt below here = ap (λ r. cond (is_eq r) (Some (held_of e).1) (lookup (is_at (entity_cmp q)) (database_of es))) (tied e q here)
 lookup_at (e ∷ es) (suc at) q lt below here =
-    ap (λ r. cond (is_eq r) (Some (held_of e).1) (lookup (is_at (entity_cmp q)) (seen es))) (passed e es q at below)
+    ap (λ r. cond (is_eq r) (Some (held_of e).1) (lookup (is_at (entity_cmp q)) (database_of es))) (passed e es q at below)
     ∙ lookup_at es at q (omega arith) (below_tail e es q at below) here
 
-lookup_none : (es : List Entry) (q : EntityId) → ((k : ℕ) → k < length es → is_eq (entity_cmp q (entry_at es k).entity) ≡ false) → lookup (is_at (entity_cmp q)) (seen es) ≡ None
+lookup_none : (es : List Entry) (q : EntityId) → ((k : ℕ) → k < length es → is_eq (entity_cmp q (entry_at es k).entity) ≡ false) → lookup (is_at (entity_cmp q)) (database_of es) ≡ None
 lookup_none [] q h = refl
-lookup_none (e ∷ es) q h = ap (λ b. cond b (Some (held_of e).1) (lookup (is_at (entity_cmp q)) (seen es))) (h 0 (omega arith)) ∙ lookup_none es q (λ k lt. h (suc k) (omega arith))
+lookup_none (e ∷ es) q h = ap (λ b. cond b (Some (held_of e).1) (lookup (is_at (entity_cmp q)) (database_of es))) (h 0 (omega arith)) ∙ lookup_none es q (λ k lt. h (suc k) (omega arith))
 
-none_in_gap : (es : List Entry) (at : ℕ) (q : EntityId) → Below es q at → Above es q at → lookup (is_at (entity_cmp q)) (seen es) ≡ None
+none_in_gap : (es : List Entry) (at : ℕ) (q : EntityId) → Below es q at → Above es q at → lookup (is_at (entity_cmp q)) (database_of es) ≡ None
 none_in_gap es at q below above = lookup_none es q (λ k lt. elim (cases_lt k at) as (λ _. is_eq (entity_cmp q (entry_at es k).entity) ≡ false) [
   | inl less ↦ ap is_eq (turned (entry_at es k).entity q (below k less))
   | inr more ↦ ap is_eq (turned_back (entry_at es k).entity q (above k more lt))
 ])
 
-set_at : (es : List Entry) (at : ℕ) (q : EntityId) (entry : Entry) (managed : Managed) → at < length es → Below es q at → (entry_at es at).entity ≡ q → held_of entry ≡ (q, managed) → set_value (is_at (entity_cmp q)) (seen es) managed ≡ seen (set es at entry)
+set_at : (es : List Entry) (at : ℕ) (q : EntityId) (entry : Entry) (managed : Managed) → at < length es → Below es q at → (entry_at es at).entity ≡ q → held_of entry ≡ (q, managed) → set_value (is_at (entity_cmp q)) (database_of es) managed ≡ database_of (set es at entry)
 set_at [] at q entry managed lt below here is = absurd (omega arith)
 set_at (e ∷ es) zero q entry managed lt below here is =
-    ap (λ r. cond (is_eq r) ((e.entity, managed) ∷ seen es) (held_of e ∷ set_value (is_at (entity_cmp q)) (seen es) managed)) (tied e q here)
-    ∙ ap (λ (k : EntityId). (k, managed) ∷ seen es) here ∙ ap (λ (x : EntityId × Managed). x ∷ seen es) (sym is)
+    ap (λ r. cond (is_eq r) ((e.entity, managed) ∷ database_of es) (held_of e ∷ set_value (is_at (entity_cmp q)) (database_of es) managed)) (tied e q here)
+    ∙ ap (λ (k : EntityId). (k, managed) ∷ database_of es) here ∙ ap (λ (x : EntityId × Managed). x ∷ database_of es) (sym is)
 set_at (e ∷ es) (suc at) q entry managed lt below here is =
-    ap (λ r. cond (is_eq r) ((e.entity, managed) ∷ seen es) (held_of e ∷ set_value (is_at (entity_cmp q)) (seen es) managed)) (passed e es q at below)
+    ap (λ r. cond (is_eq r) ((e.entity, managed) ∷ database_of es) (held_of e ∷ set_value (is_at (entity_cmp q)) (database_of es) managed)) (passed e es q at below)
     ∙ ap (λ (xs : Database). held_of e ∷ xs) (set_at es at q entry managed (omega arith) (below_tail e es q at below) here is)
 
-insert_at : (es : List Entry) (at : ℕ) (entry : Entry) → at ≤ length es → Below es entry.entity at → Above es entry.entity at → insert_entry entity_cmp (seen es) entry.entity (held_of entry).1 ≡ seen (insert es at entry)
+insert_at : (es : List Entry) (at : ℕ) (entry : Entry) → at ≤ length es → Below es entry.entity at → Above es entry.entity at → insert_entry entity_cmp (database_of es) entry.entity (held_of entry).1 ≡ database_of (insert es at entry)
 insert_at [] zero entry le below above = refl
 insert_at [] (suc at) entry le below above = absurd (omega arith)
 insert_at (e ∷ es) zero entry le below above =
-    ap (λ r. match_ordering r (held_of entry ∷ held_of e ∷ seen es) ((e.entity, (held_of entry).1) ∷ seen es) (held_of e ∷ insert_entry entity_cmp (seen es) entry.entity (held_of entry).1)) (turned_back e.entity entry.entity (above 0 (omega arith) (omega arith)))
+    ap (λ r. match_ordering r (held_of entry ∷ held_of e ∷ database_of es) ((e.entity, (held_of entry).1) ∷ database_of es) (held_of e ∷ insert_entry entity_cmp (database_of es) entry.entity (held_of entry).1)) (turned_back e.entity entry.entity (above 0 (omega arith) (omega arith)))
 insert_at (e ∷ es) (suc at) entry le below above =
-    ap (λ r. match_ordering r (held_of entry ∷ held_of e ∷ seen es) ((e.entity, (held_of entry).1) ∷ seen es) (held_of e ∷ insert_entry entity_cmp (seen es) entry.entity (held_of entry).1)) (passed e es entry.entity at below)
+    ap (λ r. match_ordering r (held_of entry ∷ held_of e ∷ database_of es) ((e.entity, (held_of entry).1) ∷ database_of es) (held_of e ∷ insert_entry entity_cmp (database_of es) entry.entity (held_of entry).1)) (passed e es entry.entity at below)
     ∙ ap (λ (xs : Database). held_of e ∷ xs) (insert_at es at entry (omega arith) (below_tail e es entry.entity at below) (above_tail e es entry.entity at above))
 
-remove_at : (es : List Entry) (at : ℕ) (q : EntityId) → at < length es → Below es q at → (entry_at es at).entity ≡ q → remove_entry (is_at (entity_cmp q)) (seen es) ≡ seen (remove es at)
+remove_at : (es : List Entry) (at : ℕ) (q : EntityId) → at < length es → Below es q at → (entry_at es at).entity ≡ q → remove_entry (is_at (entity_cmp q)) (database_of es) ≡ database_of (remove es at)
 remove_at [] at q lt below here = absurd (omega arith)
-remove_at (e ∷ es) zero q lt below here = ap (λ r. cond (is_eq r) (seen es) (held_of e ∷ remove_entry (is_at (entity_cmp q)) (seen es))) (tied e q here)
+remove_at (e ∷ es) zero q lt below here = ap (λ r. cond (is_eq r) (database_of es) (held_of e ∷ remove_entry (is_at (entity_cmp q)) (database_of es))) (tied e q here)
 remove_at (e ∷ es) (suc at) q lt below here =
-    ap (λ r. cond (is_eq r) (seen es) (held_of e ∷ remove_entry (is_at (entity_cmp q)) (seen es))) (passed e es q at below)
+    ap (λ r. cond (is_eq r) (database_of es) (held_of e ∷ remove_entry (is_at (entity_cmp q)) (database_of es))) (passed e es q at below)
     ∙ ap (λ (xs : Database). held_of e ∷ xs) (remove_at es at q (omega arith) (below_tail e es q at below) here)
 
 -- the order stays
@@ -136,7 +136,7 @@ pub record Searched (es : List Entry) (q : EntityId) (r : Result ℕ ℕ) : Type
   pub absent : IfErr r (IsGap es q)
 
 pub searched : (es : List Entry) (q : EntityId) → IsAscending (keys_of es) → (r : Result ℕ ℕ) → IsSearchInRange r (length es) → IsBinarySearchResult (λ (e : Entry). entity_cmp e.entity q) es r → Searched es q r
-unfolding held
+unfolding managed_of
 searched es q h (Ok at) in_range equal =
     let here : (entry_at es at).entity ≡ q = entity_exact _ _ (equal no_entry) in
     let below : Below es q at = λ k lt. subst (λ (x : EntityId). entity_cmp (entry_at es k).entity x ≡ Less) here (ascending_at es k at h lt in_range) in
@@ -176,25 +176,25 @@ removes es at q h is = record {
 }
 
 -- to write the values of an entity that is there
-pub written_at : (es : List Entry) (at : ℕ) (q : EntityId) (values : List ℕ) → IsAt es q at → seen (set es at record { entity = q; values = values }) ≡ with_values q (values_in q.class values) (seen es)
+pub written_at : (es : List Entry) (at : ℕ) (q : EntityId) (values : List ℕ) → IsAt es q at → database_of (set es at record { entity = q; values = values }) ≡ with_values q (values_in q.class values) (database_of es)
 unfolding with_values
 written_at es at q values is =
-    sym (ap (λ o. option_map_or (λ (managed : Managed). set_value (is_at (entity_cmp q)) (seen es) (record managed { values = values_in q.class values })) o (seen es)) is.is_held
+    sym (ap (λ o. option_map_or (λ (managed : Managed). set_value (is_at (entity_cmp q)) (database_of es) (record managed { values = values_in q.class values })) o (database_of es)) is.is_held
     ∙ set_at es at q (record { entity = q; values = values }) (record { maker = maker_of q.class; values = values_in q.class values }) is.in_range is.before is.here refl)
 
 pub written_keys : (es : List Entry) (at : ℕ) (q : EntityId) (values : List ℕ) → IsAt es q at → keys_of (set es at record { entity = q; values = values }) ≡ keys_of es
 written_keys es at q values is = map-set_same (λ (entry : Entry). entry.entity) es at (record { entity = q; values = values }) no_entry (sym is.here)
 
 -- an entity that isn't there has no values to write
-pub unwritten : (es : List Entry) (q : EntityId) (values : Values) → held q (seen es) ≡ None → seen es ≡ with_values q values (seen es)
+pub unwritten : (es : List Entry) (q : EntityId) (values : Values) → managed_of q (database_of es) ≡ None → database_of es ≡ with_values q values (database_of es)
 unfolding with_values
-unwritten es q values none = sym (ap (λ o. option_map_or (λ (managed : Managed). set_value (is_at (entity_cmp q)) (seen es) (record managed { values = values })) o (seen es)) none)
+unwritten es q values none = sym (ap (λ o. option_map_or (λ (managed : Managed). set_value (is_at (entity_cmp q)) (database_of es) (record managed { values = values })) o (database_of es)) none)
 
 -- the values of an entity that is there, and of one that isn't
-pub values_at : (es : List Entry) (at : ℕ) (q : EntityId) → IsAt es q at → values_in q.class (entry_at es at).values ≡ values_of q (seen es)
+pub values_at : (es : List Entry) (at : ℕ) (q : EntityId) → IsAt es q at → values_in q.class (entry_at es at).values ≡ values_of q (database_of es)
 unfolding values_of
 values_at es at q is = sym (ap (λ o. option_map_or (λ (managed : Managed). managed.values) o (zeros_of q.class)) is.is_held)
 
-pub values_absent : (es : List Entry) (q : EntityId) → held q (seen es) ≡ None → zeros_of q.class ≡ values_of q (seen es)
+pub values_absent : (es : List Entry) (q : EntityId) → managed_of q (database_of es) ≡ None → zeros_of q.class ≡ values_of q (database_of es)
 unfolding values_of
 values_absent es q none = sym (ap (λ o. option_map_or (λ (managed : Managed). managed.values) o (zeros_of q.class)) none)

@@ -11,10 +11,10 @@ use Rattle.omci_types.specs.declared.EntityId.{EntityId}
 use Rattle.omci_types.specs.declared.SlotView.{SlotView}
 use Rattle.omci_types.specs.declared.Software.{Software}
 use Rattle.class_spec.specs.Classes.{class_row, class_table}
-use Rattle.mib_spec.specs.Database.{Database, Values, entity, entity_cmp, flag, slot, made, image_values, first_with, ethernet, onu_g, onu2_g, t_cont, zeros_of}
+use Rattle.mib_spec.specs.Database.{Database, Values, entity, entity_cmp, flag, slot, unit_entity, image_values, first_with, ethernet, onu_g, onu2_g, t_cont, zeros_of}
 use Rattle.mib_spec.specs.Requests.{is_unit_made}
 use Rattle.mib_store.specs.declared.entry.Entry.{Entry}
-use Rattle.mib_store.specs.Entries.{values_in, maker_of, seen, unit_made, IsBefore, IsAscending, IsTable, image_by}
+use Rattle.mib_store.specs.Entries.{values_in, maker_of, database_of, unit_made, IsBefore, IsAscending, IsTable, image_by}
 use Rattle.mib_store.proofs.Counter.{blank, zeros_in}
 
 abbrev entry : ℕ → ℕ → List ℕ → Entry
@@ -69,12 +69,12 @@ unit_made_le (key ∷ keys) = elim (is_unit_made key.class) as (λ b. cond b 1 0
 
 -- the eleven entries as a database
 pub first_seen : (a b eth onu onu2 cont : List ℕ) → values_in 11 eth ≡ ethernet → values_in 256 onu ≡ onu_g → values_in 257 onu2 ≡ onu2_g → values_in 262 cont ≡ t_cont
-    → ◌≡◌ {A = Database} (seen (entry 2 0 (blank 45) ∷ entry 7 0 a ∷ entry 7 1 b ∷ entry 11 257 eth ∷ entry 11 258 eth ∷ entry 11 259 eth ∷ entry 11 260 eth ∷ entry 256 0 onu ∷ entry 257 0 onu2 ∷ entry 262 32769 cont ∷ entry 262 32770 cont ∷ []))
+    → ◌≡◌ {A = Database} (database_of (entry 2 0 (blank 45) ∷ entry 7 0 a ∷ entry 7 1 b ∷ entry 11 257 eth ∷ entry 11 258 eth ∷ entry 11 259 eth ∷ entry 11 260 eth ∷ entry 256 0 onu ∷ entry 257 0 onu2 ∷ entry 262 32769 cont ∷ entry 262 32770 cont ∷ []))
     (first_with (values_in 7 a) (values_in 7 b))
 unfolding maker_of class_row class_table first_with
 first_seen a b eth onu onu2 cont e o p t =
     let F : Values → Values → Values → Values → Values → Database = λ v2 ve vo vp vt.
-    made 2 0 v2 ∷ made 7 0 (values_in 7 a) ∷ made 7 1 (values_in 7 b) ∷ made 11 257 ve ∷ made 11 258 ve ∷ made 11 259 ve ∷ made 11 260 ve ∷ made 256 0 vo ∷ made 257 0 vp ∷ made 262 32769 vt ∷ made 262 32770 vt ∷ [] in
+    unit_entity 2 0 v2 ∷ unit_entity 7 0 (values_in 7 a) ∷ unit_entity 7 1 (values_in 7 b) ∷ unit_entity 11 257 ve ∷ unit_entity 11 258 ve ∷ unit_entity 11 259 ve ∷ unit_entity 11 260 ve ∷ unit_entity 256 0 vo ∷ unit_entity 257 0 vp ∷ unit_entity 262 32769 vt ∷ unit_entity 262 32770 vt ∷ [] in
     ap (λ v. F v (values_in 11 eth) (values_in 256 onu) (values_in 257 onu2) (values_in 262 cont)) (zeros_in 2)
     ∙ ap (λ v. F (zeros_of 2) v (values_in 256 onu) (values_in 257 onu2) (values_in 262 cont)) e
     ∙ ap (λ v. F (zeros_of 2) ethernet v (values_in 257 onu2) (values_in 262 cont)) o

@@ -1,12 +1,13 @@
 -- The table of the code as a database.
-use Rattle.std.specs.Prelude.{◌≡◌, ℕ, ◌+◌, ◌<◌, ◌≤◌, Bool, if◌then◌else◌, List, [], ◌∷◌, length, map, slice_index_or, Some, None}
+use Rattle.std.specs.Prelude.{◌≡◌, ℕ, ◌+◌, ◌<◌, ◌≤◌, Bool, true, if◌then◌else◌, List, [], ◌∷◌, length, map, slice_index_or, Some, None}
 use Rattle.std.specs.Option.{option_map_or}
 use Rattle.std.specs.declared.cmp.Ordering.TheVariants.{Less, Greater}
 use Rattle.omci_types.specs.declared.EntityId.{EntityId}
 use Rattle.class_spec.specs.declared.Maker.{Maker}
 use Rattle.class_spec.specs.declared.Maker.TheVariants.{Manager as by_manager}
 use Rattle.class_spec.specs.Classes.{class_row}
-use Rattle.mib_spec.specs.Database.{Database, Managed, Values, entity_cmp, flag, held, with_entity, without_entity}
+use Rattle.mib_spec.specs.Database.{Database, Managed, Values, entity_cmp, flag, managed_of, with_entity, without_entity, has_unit_entities}
+use Rattle.mib_spec.specs.declared.TheConstants.{MOST_ENTITIES, UNIT_ENTITIES}
 use Rattle.mib_spec.specs.Requests.{is_unit_made}
 use Rattle.mib_store.specs.declared.entry.Entry.{Entry}
 use Rattle.mib_store.specs.Layout.{cut}
@@ -23,8 +24,8 @@ abbrev pub held_of : Entry → EntityId × Managed
 held_of entry = (entry.entity, record { maker = maker_of entry.entity.class; values = values_in entry.entity.class entry.values })
 
 -- the table as a database
-abbrev pub seen : List Entry → Database
-seen entries = map held_of entries
+abbrev pub database_of : List Entry → Database
+database_of entries = map held_of entries
 
 abbrev pub keys_of : List Entry → List EntityId
 keys_of entries = map (λ entry. entry.entity) entries
@@ -43,11 +44,18 @@ abbrev pub unit_made : List EntityId → ℕ
 unit_made [] = 0
 unit_made (key ∷ keys) = (if is_unit_made key.class then 1 else 0) + unit_made keys
 
--- what is true of every table: its entities ascend, the eleven that the unit makes are there, and it has at most 4,096
+-- what is true of every table: its entities ascend, eleven are of classes that the unit makes, and
+-- it has at most 4,096
 pub record IsTable (keys : List EntityId) : Type 0 where
   pub ascending : IsAscending keys
-  pub made : unit_made keys ≡ 11
-  pub few : length keys ≤ 4096
+  pub made : unit_made keys ≡ UNIT_ENTITIES
+  pub few : length keys ≤ MOST_ENTITIES
+
+-- what is true of every database: each of the eleven entities that the unit makes is there, made by
+-- the unit
+pub record IsMib (entries : List Entry) : Type 0 where
+  pub table : IsTable (keys_of entries)
+  pub whole : has_unit_entities (database_of entries) ≡ true
 
 -- a software image with this version, committed or not, active or not, valid or not
 abbrev pub image_by : List ℕ → Bool → Bool → Bool → Values
@@ -65,18 +73,18 @@ pub record IsAt (entries : List Entry) (one : EntityId) (at : ℕ) : Type 0 wher
   pub in_range : at < length entries
   pub here : (entry_at entries at).entity ≡ one
   pub before : (k : ℕ) → k < at → entity_cmp (entry_at entries k).entity one ≡ Less
-  pub is_held : held one (seen entries) ≡ Some record { maker = maker_of one.class; values = values_in one.class (entry_at entries at).values }
+  pub is_held : managed_of one (database_of entries) ≡ Some record { maker = maker_of one.class; values = values_in one.class (entry_at entries at).values }
 
 -- the entity isn't there and would go to this place
 pub record IsGap (entries : List Entry) (one : EntityId) (at : ℕ) : Type 0 where
   pub in_range : at ≤ length entries
   pub before : (k : ℕ) → k < at → entity_cmp (entry_at entries k).entity one ≡ Less
   pub after : (k : ℕ) → at ≤ k → k < length entries → entity_cmp (entry_at entries k).entity one ≡ Greater
-  pub not_held : held one (seen entries) ≡ None
+  pub not_held : managed_of one (database_of entries) ≡ None
 
 -- the table has an entry more
 pub record Inserts (old new : List Entry) (entry : Entry) : Type 0 where
-  pub map : seen new ≡ with_entity entry.entity (held_of entry).1 (seen old)
+  pub map : database_of new ≡ with_entity entry.entity (held_of entry).1 (database_of old)
   pub ascending : IsAscending (keys_of new)
   pub made : unit_made (keys_of new)
       ≡ (if is_unit_made entry.entity.class then 1 else 0) + unit_made (keys_of old)
@@ -84,7 +92,7 @@ pub record Inserts (old new : List Entry) (entry : Entry) : Type 0 where
 
 -- the table has an entity less
 pub record Removes (old new : List Entry) (one : EntityId) : Type 0 where
-  pub map : seen new ≡ without_entity one (seen old)
+  pub map : database_of new ≡ without_entity one (database_of old)
   pub ascending : IsAscending (keys_of new)
   pub made : (if is_unit_made one.class then 1 else 0) + unit_made (keys_of new)
       ≡ unit_made (keys_of old)

@@ -18,13 +18,13 @@ cut [] bytes = []
 cut (one ∷ rest) bytes = (one.number, take one.width bytes) ∷ cut rest (drop one.width bytes)
 
 -- the bytes of the values that pass
-abbrev pub picked : (Attribute → Bool) → List Attribute → List ℕ → List ℕ
-picked passes [] bytes = []
-picked passes (one ∷ rest) bytes = (if passes one then take one.width bytes else []) ++ picked passes rest (drop one.width bytes)
+abbrev pub chosen_bytes : (Attribute → Bool) → List Attribute → List ℕ → List ℕ
+chosen_bytes passes [] bytes = []
+chosen_bytes passes (one ∷ rest) bytes = (if passes one then take one.width bytes else []) ++ chosen_bytes passes rest (drop one.width bytes)
 
 -- the bytes with the values that pass cut from the given ones
-abbrev pub overwritten : (Attribute → Bool) → List Attribute → List ℕ → List ℕ → List ℕ
-overwritten passes [] given bytes = bytes
-overwritten passes (one ∷ rest) given bytes =
+abbrev pub with_chosen : (Attribute → Bool) → List Attribute → List ℕ → List ℕ → List ℕ
+with_chosen passes [] given bytes = bytes
+with_chosen passes (one ∷ rest) given bytes =
     (if passes one then take one.width given else take one.width bytes)
-    ++ overwritten passes rest (if passes one then drop one.width given else given) (drop one.width bytes)
+    ++ with_chosen passes rest (if passes one then drop one.width given else given) (drop one.width bytes)

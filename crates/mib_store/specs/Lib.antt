@@ -2,3 +2,4 @@ pub mod Layout
 pub mod Step
 pub mod Entries
 pub mod Admitted
+pub mod Storage

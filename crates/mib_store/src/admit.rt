@@ -1,18 +1,17 @@
 //! Whether a request may be carried out: its conditions in order.
 
 ghost use Rattle.std.specs.Prelude.{◌≡◌, ◌==◌, false, length, IfOk, IfErr, MatchOption};
-ghost use Rattle.mib_spec.specs.Requests.{is_by_unit, create_code, delete_code, may_sense};
-ghost use Rattle.mib_store.specs.Entries.{seen, keys_of, IsAscending};
-ghost use Rattle.mib_store.specs.Admitted.{AdmitsCreate, AdmitsDelete, Admits, IsRefused, AdmitsSense};
+ghost use Rattle.mib_spec.specs.Database.{is_by_unit};
+ghost use Rattle.mib_spec.specs.Requests.{create_code, delete_code, may_sense};
+ghost use Rattle.mib_store.specs.Entries.{database_of, keys_of, IsAscending};
+ghost use Rattle.mib_store.specs.Admitted.{AdmitsCreate, AdmitsDelete, Admits, IsRefused};
+ghost use Rattle.mib_store.specs.Admitted.{AdmitsSense};
 
-use crate::entry::Entry;
-use crate::table::find;
+use crate::table::Table;
 use bitflags::Flags;
 use entity_classes::{Access, Class, Maker, class};
+use mib_spec::MOST_ENTITIES;
 use omci_types::{Code, EntityId};
-
-/// No database has more entities.
-pub(crate) const MOST: usize = 4096;
 
 /// The class of an admitted entity, and its place in the table or the place where it would go.
 #[derive(Clone, Copy, Debug)]
@@ -21,10 +20,10 @@ pub(crate) struct Admitted {
     pub(crate) at: usize,
 }
 
-pub(crate) fn admit_create(entries: &[Entry], entity: EntityId) -> Result<Admitted, Code>
-    requires { IsAscending (keys_of entries.now) }
-    ensures ok { IfOk result (AdmitsCreate entries.now entity) }
-    ensures refused { IfErr result (λ code. create_code entity (seen entries.now) ≡ code.0) }
+pub(crate) fn admit_create(table: &Table, entity: EntityId) -> Result<Admitted, Code>
+    requires { IsAscending (keys_of table.now) }
+    ensures ok { IfOk result (AdmitsCreate table.now entity) }
+    ensures refused { IfErr result (λ code. create_code entity (database_of table.now) ≡ code.0) }
     ensures fails { IfErr result (λ code. (code.0 == 0) ≡ false) }
 {
     let Some(class) = class(entity.class) else {
@@ -33,20 +32,20 @@ pub(crate) fn admit_create(entries: &[Entry], entity: EntityId) -> Result<Admitt
     if is_unit_made(&class) {
         return Err(Code::NOT_SUPPORTED);
     }
-    let at = match find(entries, entity) {
+    let at = match table.find(entity) {
         Ok(_) => return Err(Code::INSTANCE_EXISTS),
         Err(at) => at,
     };
-    if entries.len() >= MOST {
+    if table.len() >= MOST_ENTITIES {
         return Err(Code::PROCESSING_ERROR);
     }
     Ok(Admitted { class, at })
 }
 
-pub(crate) fn admit_delete(entries: &[Entry], entity: EntityId) -> Result<usize, Code>
-    requires { IsAscending (keys_of entries.now) }
-    ensures ok { IfOk result (AdmitsDelete entries.now entity) }
-    ensures refused { IfErr result (λ code. delete_code entity (seen entries.now) ≡ code.0) }
+pub(crate) fn admit_delete(table: &Table, entity: EntityId) -> Result<usize, Code>
+    requires { IsAscending (keys_of table.now) }
+    ensures ok { IfOk result (AdmitsDelete table.now entity) }
+    ensures refused { IfErr result (λ code. delete_code entity (database_of table.now) ≡ code.0) }
     ensures fails { IfErr result (λ code. (code.0 == 0) ≡ false) }
 {
     let Some(class) = class(entity.class) else {
@@ -55,38 +54,39 @@ pub(crate) fn admit_delete(entries: &[Entry], entity: EntityId) -> Result<usize,
     if is_unit_made(&class) {
         return Err(Code::NOT_SUPPORTED);
     }
-    match find(entries, entity) {
+    match table.find(entity) {
         Ok(at) => Ok(at),
         Err(_) => Err(Code::UNKNOWN_INSTANCE),
     }
 }
 
 /// An entity that is there, for a get or a set.
-pub(crate) fn admit(entries: &[Entry], entity: EntityId) -> Result<Admitted, Code>
-    requires { IsAscending (keys_of entries.now) }
-    ensures ok { IfOk result (Admits entries.now entity) }
-    ensures refused { IfErr result (λ code. IsRefused (seen entries.now) entity code.0) }
+pub(crate) fn admit(table: &Table, entity: EntityId) -> Result<Admitted, Code>
+    requires { IsAscending (keys_of table.now) }
+    ensures ok { IfOk result (Admits table.now entity) }
+    ensures refused { IfErr result (λ code. IsRefused (database_of table.now) entity code.0) }
 {
     let Some(class) = class(entity.class) else {
         return Err(Code::UNKNOWN_CLASS);
     };
-    match find(entries, entity) {
+    match table.find(entity) {
         Ok(at) => Ok(Admitted { class, at }),
         Err(_) => Err(Code::UNKNOWN_INSTANCE),
     }
 }
 
-/// The attribute of an entity that the unit may measure: of neither class 2 nor class 7, not to be written, and of this width.
+/// The attribute of an entity that the unit may measure: of neither class 2 nor class 7, not to be
+/// written, and of this width.
 pub(crate) fn admit_sense(
-    entries: &[Entry],
+    table: &Table,
     entity: EntityId,
     number: u8,
     value: &[u8],
 ) -> Option<Admitted>
-    requires { IsAscending (keys_of entries.now) }
+    requires { IsAscending (keys_of table.now) }
     ensures { MatchOption result
-        (may_sense entity number value.now (seen entries.now) ≡ false)
-        (AdmitsSense entries.now entity number value.now) }
+        (may_sense entity number value.now (database_of table.now) ≡ false)
+        (AdmitsSense table.now entity number value.now) }
 {
     if entity.class == 2 {
         return None;
@@ -106,7 +106,7 @@ pub(crate) fn admit_sense(
     if attribute.width as usize != value.len() {
         return None;
     }
-    match find(entries, entity) {
+    match table.find(entity) {
         Ok(at) => Some(Admitted { class, at }),
         Err(_) => None,
     }

@@ -1,11 +1,19 @@
 //! What the table holds of an entity.
 
+use class_spec::WIDEST_CLASS;
 use omci_types::EntityId;
 
-/// The bytes that the values of the widest class have together.
-pub(crate) const ROOM: usize = 45;
+/// The bytes of an entry's values.
+pub(crate) const ROOM: usize = WIDEST_CLASS;
 
-/// An entity, and the values of its attributes one after the other in attribute order, with zeros after them.
+/// What stands in a place that no table has.
+pub(crate) const NO_ENTITY: EntityId = EntityId {
+    class: 0,
+    instance: 0,
+};
+
+/// An entity, and the values of its attributes one after the other in attribute order, with zeros
+/// after them.
 #[derive(Clone, Copy, Debug)]
 pub(crate) struct Entry {
     pub(crate) entity: EntityId,

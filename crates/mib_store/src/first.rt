@@ -1,15 +1,14 @@
 //! The first database.
 
 ghost use Rattle.std.specs.Prelude.{◌≡◌, ◌<◌, if◌then◌else◌};
-ghost use Rattle.mib_spec.specs.Database.{slot, image_values, first_with, ethernet, onu_g, onu2_g, t_cont};
-ghost use Rattle.mib_store.specs.Entries.{values_in, seen, keys_of, image_by, IsTable};
+ghost use Rattle.mib_spec.specs.Database.{slot, image_values, first_with, ethernet, onu_g, onu2_g};
+ghost use Rattle.mib_spec.specs.Database.{t_cont};
+ghost use Rattle.mib_store.specs.Entries.{values_in, database_of, keys_of, image_by, IsTable};
 
 use crate::entry::{Entry, ROOM};
 use crate::layout::put;
+use mib_spec::UNIT_ENTITIES;
 use omci_types::{EntityId, SlotView, Software};
-
-/// How many entities the unit makes.
-pub(crate) const MADE: usize = 11;
 
 /// The values of the software image in this slot, 0 or 1.
 pub(crate) fn image_of(number: u8, software: &Software) -> [u8; ROOM]
@@ -35,7 +34,8 @@ fn view_of(number: u8, software: &Software) -> Option<SlotView>
     }
 }
 
-/// The values of a software image: its version, whether it is committed, whether it is active, and whether it is valid.
+/// The values of a software image: its version, whether it is committed, whether it is active, and
+/// whether it is valid.
 fn image(version: &[u8; 14], committed: bool, active: bool, valid: bool) -> [u8; ROOM]
     ensures { values_in 7 result ≡ image_by version.now committed active valid }
 {
@@ -55,30 +55,32 @@ fn flag(on: bool) -> u8
     u8::from(on)
 }
 
-/// The entities of the first database in ascending order, with these values of the two software images.
-pub(crate) fn first_entries(first: [u8; ROOM], second: [u8; ROOM]) -> [Entry; MADE]
-    ensures seen { seen result ≡ first_with (values_in 7 first) (values_in 7 second) }
+/// The entities of the first database in ascending order, with these values of the two software
+/// images.
+pub(crate) fn first_entries(first: [u8; ROOM], second: [u8; ROOM]) -> [Entry; UNIT_ENTITIES]
+    ensures seen { database_of result ≡ first_with (values_in 7 first) (values_in 7 second) }
     ensures table { IsTable (keys_of result) }
 {
     let ethernet = ethernet();
     let t_cont = t_cont();
     [
-        made(2, 0, [0; ROOM]),
-        made(7, 0, first),
-        made(7, 1, second),
-        made(11, 257, ethernet),
-        made(11, 258, ethernet),
-        made(11, 259, ethernet),
-        made(11, 260, ethernet),
-        made(256, 0, onu_g()),
-        made(257, 0, onu2_g()),
-        made(262, 32769, t_cont),
-        made(262, 32770, t_cont),
+        unit_entry(2, 0, [0; ROOM]),
+        unit_entry(7, 0, first),
+        unit_entry(7, 1, second),
+        unit_entry(11, 257, ethernet),
+        unit_entry(11, 258, ethernet),
+        unit_entry(11, 259, ethernet),
+        unit_entry(11, 260, ethernet),
+        unit_entry(256, 0, onu_g()),
+        unit_entry(257, 0, onu2_g()),
+        unit_entry(262, 32769, t_cont),
+        unit_entry(262, 32770, t_cont),
     ]
 }
 
-fn made(class: u16, instance: u16, values: [u8; ROOM]) -> Entry
-    ensures { result ≡ record { entity = record { class = class; instance = instance }; values = values } }
+fn unit_entry(class: u16, instance: u16, values: [u8; ROOM]) -> Entry
+    ensures { result
+        ≡ record { entity = record { class = class; instance = instance }; values = values } }
 {
     Entry {
         entity: EntityId { class, instance },

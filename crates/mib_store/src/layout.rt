@@ -1,15 +1,17 @@
 //! The values of an entity as bytes that stand one after the other.
 
-ghost use Rattle.std.specs.Prelude.{◌≡◌, ◌+◌, ◌<◌, ◌≤◌, ◌++◌, true, false, length, take, drop, if◌then◌else◌};
+ghost use Rattle.std.specs.Prelude.{◌≡◌, ◌+◌, ◌<◌, ◌≤◌, ◌++◌, true, false, length, take, drop};
+ghost use Rattle.std.specs.Prelude.{if◌then◌else◌};
 ghost use Rattle.class_spec.specs.Classes.{Attribute as Listed};
 ghost use Rattle.class_spec.specs.Masks.{width_where};
 ghost use Rattle.entity_classes.specs.Rule.{IsRow, attribute_of};
-ghost use Rattle.mib_spec.specs.Requests.{filled};
-ghost use Rattle.mib_store.specs.Layout.{picks, picked, overwritten};
+ghost use Rattle.mib_spec.specs.Requests.{with_zeros};
+ghost use Rattle.mib_store.specs.Layout.{picks, chosen_bytes, with_chosen};
 ghost use Rattle.mib_store.specs.Step.{IsStep};
 
 use crate::entry::ROOM;
 use bitflags::Flags;
+use class_spec::GET_ROOM;
 use entity_classes::{Access, Attribute, Class};
 use omci_attributes::Mask;
 
@@ -25,14 +27,14 @@ pub(crate) enum Chosen {
 }
 
 /// The values with the chosen ones cut from the given bytes, one after the other.
-pub(crate) fn written(
+pub(crate) fn with_chosen(
     class: &Class,
     chosen: Chosen,
     given: &[u8],
     values: &[u8; ROOM],
 ) -> [u8; ROOM]
     requires { width_where (picks chosen) class.now.attributes ≤ length given.now }
-    ensures { result ≡ overwritten (picks chosen) class.now.attributes given.now values.now }
+    ensures { result ≡ with_chosen (picks chosen) class.now.attributes given.now values.now }
 {
     let mut after = *values;
     let mut at = 0;
@@ -46,11 +48,12 @@ pub(crate) fn written(
 }
 
 /// The chosen values, one after the other, and zeros after them.
-pub(crate) fn gathered(class: &Class, chosen: Chosen, values: &[u8; ROOM]) -> [u8; 25]
-    requires { width_where (picks chosen) class.now.attributes ≤ 25 }
-    ensures { result ≡ filled 25 (picked (picks chosen) class.now.attributes values.now) }
+pub(crate) fn gather(class: &Class, chosen: Chosen, values: &[u8; ROOM]) -> [u8; GET_ROOM]
+    requires { width_where (picks chosen) class.now.attributes ≤ GET_ROOM }
+    ensures { result
+        ≡ with_zeros GET_ROOM (chosen_bytes (picks chosen) class.now.attributes values.now) }
 {
-    let mut into = [0; 25];
+    let mut into = [0; GET_ROOM];
     let mut from = 0;
     let mut to = 0;
     for place in 0..class.count() {

@@ -1,10 +1,12 @@
-//! The unit's database: a sorted table of the entities with the bytes of their attributes.
+//! The unit's database: a table of the entities with the bytes of their attributes, and an index in
+//! ascending order.
 #![tactic(auto)]
 
 mod admit;
 mod answers;
 mod entry;
 mod first;
+mod index;
 mod layout;
 mod mib;
 mod requests;
@@ -15,6 +17,3 @@ pub use mib::Mib;
 pub use mib_spec::Sensed;
 pub use omci_attributes::Mask;
 pub use omci_core::NoMemory;
-
-#[cfg(test)]
-mod tests;

@@ -1,120 +1,199 @@
-//! The table: entries in ascending order of the entity.
+//! The table: entries in the order in which they were made, and an index that has their places in
+//! ascending order of the entity. A create or a delete moves places of two bytes, and no entry.
 
-ghost use Rattle.std.specs.Prelude.{◌≡◌, ◌<◌, IfOk, IfErr, OnOk, OnErr, length};
-ghost use Rattle.mib_spec.specs.Database.{bump, counter, grown, with_values, values_of};
-ghost use Rattle.mib_store.specs.Entries.{values_in, seen, keys_of, IsAscending, IsAt, IsGap, entry_at, Inserts, Removes};
+ghost use Rattle.std.specs.Prelude.{◌≡◌, ◌<◌, ◌≤◌, ◌^◌, IfOk, IfErr, OnOk, OnErr, length};
+ghost use Rattle.mib_spec.specs.Database.{bump, counter, with_counter_grown, with_values};
+ghost use Rattle.mib_spec.specs.Database.{values_of};
+ghost use Rattle.mib_store.specs.Entries.{values_in, database_of, keys_of, IsAscending, IsAt};
+ghost use Rattle.mib_store.specs.Entries.{IsGap, entry_at, Inserts, Removes};
 
 use crate::entry::{Entry, ROOM};
+use crate::index::{find_in, lodge, move_to, move_to_end, write_in};
+use class_spec::ONU_DATA;
+use mib_spec::UNIT_ENTITIES;
 use omci_core::NoMemory;
 use omci_types::EntityId;
+use std::alloc::Global;
+use std::marker::Model;
 
-/// ONU data, whose attribute 1 is the counter.
-pub(crate) const ONU_DATA: EntityId = EntityId {
-    class: 2,
-    instance: 0,
-};
-
-/// The place of the entity, or the place where it would go.
-pub(crate) fn find(entries: &[Entry], entity: EntityId) -> Result<usize, usize>
-    requires { IsAscending (keys_of entries.now) }
-    ensures found { IfOk result (IsAt entries.now entity) }
-    ensures absent { IfErr result (IsGap entries.now entity) }
-{
-    entries.binary_search_by_key(&entity, |entry| entry.entity)
+/// The entities of a unit with their values, seen as the list of its entries in ascending order of
+/// the entity. `Mib` holds it; `insert` alone takes memory.
+#[derive(Drop)]
+pub(crate) struct Table {
+    /// The entries, and between them those that were removed, in whose places the next ones go.
+    entries: Vec<Entry>,
+    /// Each place of an entry once: first those of the entries that are there, in ascending order
+    /// of the entity, then the free ones.
+    order: Vec<u16>,
+    /// How many entries are there.
+    count: usize,
 }
 
-/// The values of the entry in this place.
-pub(crate) fn values_at(entries: &[Entry], at: usize) -> [u8; ROOM]
-    requires { at < length entries.now }
-    ensures { result ≡ (entry_at entries.now at).values }
-{
-    entries[at].values
+impl Model for Table {
+    ghost use Rattle.std.specs.Prelude.{List, take};
+    ghost use Rattle.mib_store.specs.declared.entry.Entry.{Entry};
+    ghost use Rattle.mib_store.specs.Storage.{in_order, IsIndex};
+
+    ghost Value = { List Entry };
+
+    ghost view = { λ t. in_order t.entries.items (take t.count t.order.items) };
+
+    ghost invariant = { λ t. IsIndex t.entries.items t.order.items t.count };
 }
 
-/// Writes the values of the entity in its place.
-pub(crate) fn write_at(entries: &mut [Entry], at: usize, entity: EntityId, values: [u8; ROOM])
-    requires { IsAt entries.old entity at }
-    ensures written { seen entries.new
-        ≡ with_values entity (values_in entity.class values) (seen entries.old) }
-    ensures keys { keys_of entries.new ≡ keys_of entries.old }
+/// The places of the first entries.
+const FIRST_ORDER: [u16; UNIT_ENTITIES] = [0, 1, 2, 3, 4, 5, 6, 7, 8, 9, 10];
+
+impl Table {
+    /// A table of these entries, which stand in ascending order.
+    pub(crate) fn of(alloc: Global, entries: &[Entry; UNIT_ENTITIES]) -> Result<Table, NoMemory>
+        ensures { IfOk result (λ table. table ≡ entries.now) }
+    {
+        let made = Vec::from_slice(alloc, entries)?;
+        let order = Vec::from_slice(alloc, &FIRST_ORDER)?;
+        Ok(Table {
+            entries: made,
+            order,
+            count: UNIT_ENTITIES,
+        })
+    }
+
+    /// Puts these entries, which stand in ascending order, in place of all.
+    pub(crate) fn refill(&mut self, entries: &[Entry; UNIT_ENTITIES])
+        requires { UNIT_ENTITIES ≤ length self.old }
+        ensures { self.new ≡ entries.now }
+    {
+        self.entries.truncate(UNIT_ENTITIES);
+        self.order.truncate(UNIT_ENTITIES);
+        self.count = UNIT_ENTITIES;
+        overwrite(&mut self.entries, entries);
+        overwrite(&mut self.order, &FIRST_ORDER);
+    }
+
+    /// How many entries there are.
+    pub(crate) fn len(&self) -> usize
+        ensures { result ≡ length self.now }
+    {
+        self.count
+    }
+
+    /// The place of the entity, or the place where it would go.
+    pub(crate) fn find(&self, entity: EntityId) -> Result<usize, usize>
+        requires { IsAscending (keys_of self.now) }
+        ensures found { IfOk result (IsAt self.now entity) }
+        ensures absent { IfErr result (IsGap self.now entity) }
+    {
+        find_in(&self.entries, &self.order[..self.count], entity)
+    }
+
+    /// The entry in this place.
+    pub(crate) fn entry(&self, at: usize) -> &Entry
+        requires { at < length self.now }
+        ensures { result.now ≡ entry_at self.now at }
+    {
+        &self.entries[self.order[at] as usize]
+    }
+
+    /// The values of the entry in this place.
+    pub(crate) fn values(&self, at: usize) -> [u8; ROOM]
+        requires { at < length self.now }
+        ensures { result ≡ (entry_at self.now at).values }
+    {
+        self.entry(at).values
+    }
+
+    /// Writes the values of the entity in its place.
+    pub(crate) fn write(&mut self, at: usize, entity: EntityId, values: [u8; ROOM])
+        requires { IsAt self.old entity at }
+        ensures written { database_of self.new
+            ≡ with_values entity (values_in entity.class values) (database_of self.old) }
+        ensures keys { keys_of self.new ≡ keys_of self.old }
+    {
+        write_in(
+            &mut self.entries,
+            &self.order[..self.count],
+            at,
+            Entry { entity, values },
+        );
+    }
+
+    /// Puts an entry in its place.
+    pub(crate) fn insert(&mut self, at: usize, entry: Entry) -> Result<(), NoMemory>
+        requires gap { IsGap self.old entry.entity at }
+        requires ascending { IsAscending (keys_of self.old) }
+        requires few { length self.old < 2 ^ 16 }
+        ensures ok { OnOk result (Inserts self.old self.new entry) }
+        ensures err { OnErr result (self.new ≡ self.old) }
+    {
+        lodge(&mut self.entries, &mut self.order, self.count, entry)?;
+        move_to(&mut self.order, self.count, at);
+        self.count += 1;
+        Ok(())
+    }
+
+    /// Takes the entry out of its place, which is free then.
+    pub(crate) fn remove(&mut self, at: usize, entity: EntityId)
+        requires at { IsAt self.old entity at }
+        requires ascending { IsAscending (keys_of self.old) }
+        ensures { Removes self.old self.new entity }
+    {
+        self.count -= 1;
+        move_to_end(&mut self.order, at, self.count);
+    }
+}
+
+fn overwrite<T: Copy>(into: &mut Vec<T>, from: &[T; UNIT_ENTITIES])
+    requires { length into.old.items ≡ UNIT_ENTITIES }
+    ensures { into.new.items ≡ from.now }
 {
-    entries[at] = Entry { entity, values };
+    into.as_mut_slice().copy_from_slice(from);
 }
 
 /// Writes the values of the entity where it is there.
-pub(crate) fn put_values(entries: &mut [Entry], entity: EntityId, values: [u8; ROOM])
-    requires { IsAscending (keys_of entries.old) }
-    ensures written { seen entries.new
-        ≡ with_values entity (values_in entity.class values) (seen entries.old) }
-    ensures keys { keys_of entries.new ≡ keys_of entries.old }
+pub(crate) fn put_values(table: &mut Table, entity: EntityId, values: [u8; ROOM])
+    requires { IsAscending (keys_of table.old) }
+    ensures written { database_of table.new
+        ≡ with_values entity (values_in entity.class values) (database_of table.old) }
+    ensures keys { keys_of table.new ≡ keys_of table.old }
 {
-    if let Ok(at) = find(entries, entity) {
-        write_at(entries, at, entity, values);
+    if let Ok(at) = table.find(entity) {
+        table.write(at, entity, values);
     }
 }
 
 /// The values of the entity, and zeros for one that isn't there.
-pub(crate) fn values_of(entries: &[Entry], entity: EntityId) -> [u8; ROOM]
-    requires { IsAscending (keys_of entries.now) }
-    ensures { values_in entity.class result ≡ values_of entity (seen entries.now) }
+pub(crate) fn values_of(table: &Table, entity: EntityId) -> [u8; ROOM]
+    requires { IsAscending (keys_of table.now) }
+    ensures { values_in entity.class result ≡ values_of entity (database_of table.now) }
 {
-    match find(entries, entity) {
-        Ok(at) => entries[at].values,
+    match table.find(entity) {
+        Ok(at) => table.values(at),
         Err(_) => [0; ROOM],
     }
 }
 
 /// The counter.
-pub(crate) fn counter(entries: &[Entry]) -> u8
-    requires { IsAscending (keys_of entries.now) }
-    ensures { result ≡ counter (seen entries.now) }
+pub(crate) fn counter(table: &Table) -> u8
+    requires { IsAscending (keys_of table.now) }
+    ensures { result ≡ counter (database_of table.now) }
 {
-    values_of(entries, ONU_DATA)[0]
+    values_of(table, ONU_DATA)[0]
 }
 
 /// Makes the counter one more, and 1 after 255.
-pub(crate) fn grow(entries: &mut [Entry])
-    requires { IsAscending (keys_of entries.old) }
-    ensures grown { seen entries.new ≡ grown (seen entries.old) }
-    ensures keys { keys_of entries.new ≡ keys_of entries.old }
+pub(crate) fn grow(table: &mut Table)
+    requires { IsAscending (keys_of table.old) }
+    ensures grown { database_of table.new ≡ with_counter_grown (database_of table.old) }
+    ensures keys { keys_of table.new ≡ keys_of table.old }
 {
-    let mut values = values_of(entries, ONU_DATA);
-    values[0] = bumped(values[0]);
-    put_values(entries, ONU_DATA, values);
-}
-
-/// Makes the counter of a whole table one more.
-pub(crate) fn grow_all(entries: &mut Vec<Entry>)
-    requires { IsAscending (keys_of entries.old.items) }
-    ensures grown { seen entries.new.items ≡ grown (seen entries.old.items) }
-    ensures keys { keys_of entries.new.items ≡ keys_of entries.old.items }
-{
-    grow(entries.as_mut_slice());
+    let mut values = values_of(table, ONU_DATA);
+    values[0] = next_count(values[0]);
+    put_values(table, ONU_DATA, values);
 }
 
 /// The count after this one: 1 after 255.
-fn bumped(count: u8) -> u8
+fn next_count(count: u8) -> u8
     ensures { result ≡ bump count }
 {
     if count == 255 { 1 } else { count + 1 }
-}
-
-/// Puts an entry in its place.
-pub(crate) fn insert(entries: &mut Vec<Entry>, at: usize, entry: Entry) -> Result<(), NoMemory>
-    requires gap { IsGap entries.old.items entry.entity at }
-    requires ascending { IsAscending (keys_of entries.old.items) }
-    ensures ok { OnOk result (Inserts entries.old.items entries.new.items entry) }
-    ensures err { OnErr result (entries.new.items ≡ entries.old.items) }
-{
-    entries.insert(at, entry)?;
-    Ok(())
-}
-
-/// Takes the entry out of its place.
-pub(crate) fn remove(entries: &mut Vec<Entry>, at: usize, entity: EntityId)
-    requires at { IsAt entries.old.items entity at }
-    requires ascending { IsAscending (keys_of entries.old.items) }
-    ensures { Removes entries.old.items entries.new.items entity }
-{
-    let _entry = entries.remove(at);
 }

@@ -1,7 +1,8 @@
 //! What a mask selects of a class, and where the selected values stand.
 
 ghost use Rattle.std.specs.Prelude.{◌≡◌, ◌+◌, ◌<◌, ◌≤◌, length, drop};
-ghost use Rattle.class_spec.specs.Masks.{mask_where, width_where, known_mask, unknown_mask, fixed_mask, width_of, place_of};
+ghost use Rattle.class_spec.specs.Masks.{mask_where, width_where, known_mask, unknown_mask};
+ghost use Rattle.class_spec.specs.Masks.{fixed_mask, width_of, place_of};
 ghost use Rattle.entity_classes.specs.Rule.{IsRow};
 ghost use Rattle.omci_attributes.specs.Placed.{is_selected, is_fixed, placed};
 
@@ -69,9 +70,10 @@ pub fn width(class: &Class, mask: Mask) -> usize
     select(class, mask).width
 }
 
-/// Where the attribute's value begins among the values of the named attributes, which stand one after the other in attribute order.
-/// The first fault that holds: `Unknown` exactly where the class has no attribute of this number or the mask doesn't name it, and
-/// `DoesNotFit` exactly where the value ends after the room, in bytes.
+/// Where the attribute's value begins among the values of the named attributes, which stand one
+/// after the other in attribute order. The first fault that holds: `Unknown` exactly where the
+/// class has no attribute of this number or the mask doesn't name it, and `DoesNotFit` exactly
+/// where the value ends after the room, in bytes.
 pub fn place(class: &Class, mask: Mask, number: u8, room: usize) -> Result<usize, MaskFault>
     ensures { result ≡ placed class.now mask number room }
 {

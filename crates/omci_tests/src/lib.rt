@@ -6,6 +6,16 @@
 mod contents;
 #[cfg(test)]
 mod core_types;
+//! The class table, the masks, the database, and whole runs of the top call over the sources and sinks in memory. The crate has
+//! tests alone.
+#![tactic(auto)]
+
+#[cfg(test)]
+mod attributes;
+#[cfg(test)]
+mod classes;
+#[cfg(test)]
+mod database;
 #[cfg(test)]
 mod failing;
 #[cfg(test)]

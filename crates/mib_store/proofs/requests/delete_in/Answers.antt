@@ -1,26 +1,23 @@
-use Rattle.std.proofs.Common.{◌≡◌, List, ap, subst, ◌∙◌}
-use Rattle.mib_spec.specs.Database.{grown}
-use Rattle.mib_spec.specs.Requests.{delete_code}
-use Rattle.mib_store.specs.declared.entry.Entry.{Entry}
-use Rattle.mib_store.specs.Entries.{seen}
-use Rattle.mib_store.specs.Admitted.{AdmitsDelete}
+use Rattle.std.proofs.Common.{ap, ◌∙◌}
+use Rattle.mib_spec.specs.Database.{with_counter_grown}
+use Rattle.mib_store.specs.Entries.{database_of}
 use Rattle.mib_store.proofs.Effects.{deleted_code, deleted_kept, deleted_done}
 use Rattle.mib_store.proofs.requests.delete_in.Goals as goal
 
 pub returns-in-Err-clause-code : goal.returns-in-Err-clause-code
 returns-in-Err-clause-code c =
-    deleted_code c.args.entity (seen c.args.entries.now.items) c.in-Err.code.0 (subst (λ (es : List Entry). delete_code c.args.entity (seen es) ≡ c.in-Err.code.0) c.deref.ensures.value c.in-Err.ensures.refused)
+    deleted_code c.args.entity (database_of c.args.table.now) c.in-Err.code.0 c.in-Err.ensures.refused
 
 pub returns-in-Err-clause-database : goal.returns-in-Err-clause-database
 returns-in-Err-clause-database c =
-    deleted_kept c.args.entity (seen c.args.entries.now.items) c.in-Err.code.0 (subst (λ (es : List Entry). delete_code c.args.entity (seen es) ≡ c.in-Err.code.0) c.deref.ensures.value c.in-Err.ensures.refused) c.in-Err.ensures.fails
+    deleted_kept c.args.entity (database_of c.args.table.now) c.in-Err.code.0 c.in-Err.ensures.refused c.in-Err.ensures.fails
 
 pub returns-in-Ok-clause-code : goal.returns-in-Ok-clause-code
 returns-in-Ok-clause-code c =
-    let ok = subst (λ (es : List Entry). AdmitsDelete es c.args.entity c.in-Ok.at) c.deref.ensures.value c.in-Ok.ensures.ok in
-    deleted_code c.args.entity (seen c.args.entries.now.items) 0 ok.code
+    let ok = c.in-Ok.ensures.ok in
+    deleted_code c.args.entity (database_of c.args.table.now) 0 ok.code
 
 pub returns-in-Ok-clause-database : goal.returns-in-Ok-clause-database
 returns-in-Ok-clause-database c =
-    let ok = subst (λ (es : List Entry). AdmitsDelete es c.args.entity c.in-Ok.at) c.deref.ensures.value c.in-Ok.ensures.ok in
-    c.grow_all.ensures.grown ∙ ap grown c.remove.ensures.map ∙ deleted_done c.args.entity (seen c.args.entries.now.items) ok.code
+    let ok = c.in-Ok.ensures.ok in
+    c.grow.ensures.grown ∙ ap with_counter_grown c.remove.ensures.map ∙ deleted_done c.args.entity (database_of c.args.table.now) ok.code

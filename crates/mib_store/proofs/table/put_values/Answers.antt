@@ -3,4 +3,4 @@ use Rattle.mib_store.proofs.Places.{unwritten}
 use Rattle.mib_store.proofs.table.put_values.Goals as goal
 
 pub returns-in_default-clause-written : goal.returns-in_default-clause-written
-returns-in_default-clause-written c = unwritten c.args.entries.now c.args.entity (values_in c.args.entity.class c.args.values) c.in_default.ensures.absent.not_held
+returns-in_default-clause-written c = unwritten c.args.table.now c.args.entity (values_in c.args.entity.class c.args.values) c.in_default.ensures.absent.not_held
