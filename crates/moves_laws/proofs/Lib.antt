@@ -5,3 +5,6 @@ pub mod Numbers
 pub mod Serving
 pub mod Ending
 pub mod Others
+pub mod Steps
+pub mod Runs
+pub mod Reached
