@@ -4,12 +4,12 @@ use Rattle.std.proofs.lemmas.Option.{slice_get_within}
 use Rattle.omci_types.specs.declared.Priority.{Priority}
 use Rattle.mib_spec.specs.Database.{Database}
 use Rattle.history_spec.specs.History.{Note, Entry, CarriedOut, TookReply, Noted, WasCarried, LastReply}
-use Rattle.moves_spec.specs.Channel.{Command, Packet, Request, Reply, Kept, Outstanding, View}
-use Rattle.moves_spec.specs.Moves.{with_packet, with_requests, with_floor_down, with_floor_up, with_unit_start, with_manager_start, with_entry}
-use Rattle.moves_laws.proofs.Parts.{Asks, Replies, Owner, Before, Order, Held, Past, Own, Placed, Apart, Places, Returns, Proved, IsLane}
+use Rattle.moves_spec.specs.Channel.{Transaction, LinkPacket, RequestOf, ReplyTo, KeptReply, Outstanding, View}
+use Rattle.moves_spec.specs.Moves.{with_packet, with_requests, with_floor_down, with_floor_up, with_unit_start, with_manager_start, with_written}
+use Rattle.moves_laws.proofs.Parts.{Asks, Replies, Owner, Before, OrderPart, HeldPart, Past, Own, Placed, Apart, PlacesPart, RepliesPart, ProvedPart, SoundLane}
 use Rattle.moves_laws.proofs.Lists.{got, still, nothing}
 
-pub lane_lowered_down : (l : Priority) (v : View) (i : ℕ) → v.lane.floor_down ≤ i → IsLane l v → IsLane l (with_floor_down i v)
+pub lane_lowered_down : (l : Priority) (v : View) (i : ℕ) → v.lane.floor_down ≤ i → SoundLane l v → SoundLane l (with_floor_down i v)
 lane_lowered_down l v i up h = record {
   order = h.order;
   held = record {
@@ -28,10 +28,10 @@ lane_lowered_down l v i up h = record {
     requests = λ j c e le. h.places.requests j c e (omega arith);
     replies = h.places.replies;
   };
-  returns = record {
-    below = λ j k d c r e le f lf. h.returns.below j k d c r e le f (omega arith);
-    newest = h.returns.newest;
-    fresh = h.returns.fresh;
+  replies = record {
+    below = λ j k d c r e le f lf. h.replies.below j k d c r e le f (omega arith);
+    newest = h.replies.newest;
+    fresh = h.replies.fresh;
   };
   proved = record {
     unproven = h.proved.unproven;
@@ -43,7 +43,7 @@ lane_lowered_down l v i up h = record {
   };
 }
 
-pub lane_lowered_up : (l : Priority) (v : View) (i : ℕ) → v.lane.floor_up ≤ i → IsLane l v → IsLane l (with_floor_up i v)
+pub lane_lowered_up : (l : Priority) (v : View) (i : ℕ) → v.lane.floor_up ≤ i → SoundLane l v → SoundLane l (with_floor_up i v)
 lane_lowered_up l v i up h = record {
   order = h.order;
   held = h.held;
@@ -54,10 +54,10 @@ lane_lowered_up l v i up h = record {
     requests = h.places.requests;
     replies = λ j c r e le. h.places.replies j c r e (omega arith);
   };
-  returns = record {
-    below = λ j k d c r e le f lf. h.returns.below j k d c r e (omega arith) f lf;
-    newest = λ j d r o e le f. h.returns.newest j d r o e (omega arith) f;
-    fresh = λ j d r e le. h.returns.fresh j d r e (omega arith);
+  replies = record {
+    below = λ j k d c r e le f lf. h.replies.below j k d c r e (omega arith) f lf;
+    newest = λ j d r o e le f. h.replies.newest j d r o e (omega arith) f;
+    fresh = λ j d r e le. h.replies.fresh j d r e (omega arith);
   };
   proved = record {
     unproven = h.proved.unproven;
@@ -71,7 +71,7 @@ lane_lowered_up l v i up h = record {
 
 -- nothing that was sent before a start may come after it
 
-pub lane_unit_start : (l : Priority) (v : View) → IsLane l v → IsLane l (with_unit_start v)
+pub lane_unit_start : (l : Priority) (v : View) → SoundLane l v → SoundLane l (with_unit_start v)
 lane_unit_start l v h = record {
   order = h.order;
   held = record {
@@ -90,7 +90,7 @@ lane_unit_start l v h = record {
     requests = λ i c e le. absurd (nothing v.shared.packets i e le);
     replies = λ j c r e le. absurd (nothing v.shared.packets j e le);
   };
-  returns = record {
+  replies = record {
     below = λ j i d c r e le f lf. absurd (nothing v.shared.packets j e le);
     newest = λ j d r o e le f. absurd (nothing v.shared.packets j e le);
     fresh = λ j d r e le. absurd (nothing v.shared.packets j e le);
@@ -105,7 +105,7 @@ lane_unit_start l v h = record {
   };
 }
 
-pub lane_manager_start : (l : Priority) (v : View) (place : ℕ) → IsLane l v → IsLane l (with_manager_start place v)
+pub lane_manager_start : (l : Priority) (v : View) (place : ℕ) → SoundLane l v → SoundLane l (with_manager_start place v)
 lane_manager_start l v place h = record {
   order = record {
     sorted = h.order.sorted;
@@ -129,7 +129,7 @@ lane_manager_start l v place h = record {
     requests = λ i c e le. absurd (nothing v.shared.packets i e le);
     replies = λ j c r e le. absurd (nothing v.shared.packets j e le);
   };
-  returns = record {
+  replies = record {
     below = λ j i d c r e le f lf. absurd (nothing v.shared.packets j e le);
     newest = λ j d r o e le f. absurd (nothing v.shared.packets j e le);
     fresh = λ j d r e le. absurd (nothing v.shared.packets j e le);
@@ -145,15 +145,15 @@ lane_manager_start l v place h = record {
 }
 
 -- a packet that is none of this lane
-pub record Foreign (l : Priority) (x : Packet) : Type 0 where
-  pub no_request : (c : Command) → x ≢ Request l c
-  pub no_reply : (c : Command) (r : List ℕ) → x ≢ Reply l c r
+pub record Foreign (l : Priority) (x : LinkPacket) : Type 0 where
+  pub no_request : (c : Transaction) → x ≢ RequestOf l c
+  pub no_reply : (c : Transaction) (r : List ℕ) → x ≢ ReplyTo l c r
 
-pub lane_beside : (l : Priority) (v : View) (x : Packet) → Foreign l x → IsLane l v → IsLane l (with_packet x v)
+pub lane_beside : (l : Priority) (v : View) (x : LinkPacket) → Foreign l x → SoundLane l v → SoundLane l (with_packet x v)
 lane_beside l v x n h =
-    let asks : (i : ℕ) (c : Command) → Asks l (v.shared.packets ++ x ∷ []) i c → Asks l v.shared.packets i c =
+    let asks : (i : ℕ) (c : Transaction) → Asks l (v.shared.packets ++ x ∷ []) i c → Asks l v.shared.packets i c =
       λ i c e. ⊎_elim (λ f. f) (λ g. absurd (n.no_request c g.1)) (got v.shared.packets x i _ e) in
-    let replies : (j : ℕ) (c : Command) (r : List ℕ) → Replies l (v.shared.packets ++ x ∷ []) j c r → Replies l v.shared.packets j c r =
+    let replies : (j : ℕ) (c : Transaction) (r : List ℕ) → Replies l (v.shared.packets ++ x ∷ []) j c r → Replies l v.shared.packets j c r =
       λ j c r e. ⊎_elim (λ f. f) (λ g. absurd (n.no_reply c r g.1)) (got v.shared.packets x j _ e) in
     record {
       order = record {
@@ -178,25 +178,25 @@ lane_beside l v x n h =
         requests = λ i c e le. h.places.requests i c (asks i c e) le;
         replies = λ j c r e le. h.places.replies j c r (replies j c r e) le;
       };
-      returns = record {
-        below = λ j i d c r e le f lf. h.returns.below j i d c r (replies j d r e) le (asks i c f) lf;
-        newest = λ j d r o e le f. h.returns.newest j d r o (replies j d r e) le f;
-        fresh = λ j d r e le. h.returns.fresh j d r (replies j d r e) le;
+      replies = record {
+        below = λ j i d c r e le f lf. h.replies.below j i d c r (replies j d r e) le (asks i c f) lf;
+        newest = λ j d r o e le f. h.replies.newest j d r o (replies j d r e) le f;
+        fresh = λ j d r e le. h.replies.fresh j d r (replies j d r e) le;
       };
       proved = record {
         unproven = h.proved.unproven;
         kept = h.proved.kept;
         quiet = λ i c pr e le. h.proved.quiet i c pr (asks i c e) le;
-        answered = λ o j r w e le. h.proved.answered o j r w (replies j o.command r e) le;
-        reply = λ o j r w b e le. h.proved.reply o j r w b (replies j o.command r e) le;
+        answered = λ o j r w e le. h.proved.answered o j r w (replies j o.transaction r e) le;
+        reply = λ o j r w b e le. h.proved.reply o j r w b (replies j o.transaction r e) le;
         kept_reply = h.proved.kept_reply;
       };
     }
 
-pub lane_beside_all : (l m : Priority) (c : Command) (packets : List (List ℕ)) (v : View) → Foreign l (Request m c) → IsLane l v
-    → IsLane l (with_requests m c packets v)
+pub lane_beside_all : (l m : Priority) (c : Transaction) (packets : List (List ℕ)) (v : View) → Foreign l (RequestOf m c) → SoundLane l v
+    → SoundLane l (with_requests m c packets v)
 lane_beside_all l m c [] v n h = h
-lane_beside_all l m c (p ∷ rest) v n h = lane_beside_all l m c rest (with_packet (Request m c) v) n (lane_beside l v (Request m c) n h)
+lane_beside_all l m c (p ∷ rest) v n h = lane_beside_all l m c rest (with_packet (RequestOf m c) v) n (lane_beside l v (RequestOf m c) n h)
 
 -- a command of the other lane is drawn
 abbrev pub more_drawn : Priority → View → View
@@ -205,13 +205,13 @@ more_drawn m v = record v { shared = record v.shared { draws = v.shared.draws ++
 owner_before : (l m : Priority) (draws : List Priority) (id : ℕ) → m ≢ l → Owner l (draws ++ m ∷ []) id → Owner l draws id
 owner_before l m draws id ne e = ⊎_elim (λ f. f) (λ g. absurd (ne g.1)) (got draws m id l e)
 
-pub lane_more_drawn : (l m : Priority) (v : View) → m ≢ l → IsLane l v → IsLane l (more_drawn m v)
+pub lane_more_drawn : (l m : Priority) (v : View) → m ≢ l → SoundLane l v → SoundLane l (more_drawn m v)
 lane_more_drawn l m v ne h = record {
   order = record {
     sorted = h.order.sorted;
     owner = λ i c e. still v.shared.draws _ c.id l (h.order.owner i c e);
     newest = h.order.newest;
-    waiting_owner = λ o e. still v.shared.draws _ o.command.id l (h.order.waiting_owner o e);
+    waiting_owner = λ o e. still v.shared.draws _ o.transaction.id l (h.order.waiting_owner o e);
   };
   held = record {
     below = h.held.below;
@@ -223,24 +223,24 @@ lane_more_drawn l m v ne h = record {
     known = λ life id was. omega (arith, h.held.known life id was, length-append v.shared.draws (m ∷ []));
   };
   places = h.places;
-  returns = record {
-    below = h.returns.below;
-    newest = h.returns.newest;
-    fresh = λ j d r e le. omega (arith, h.returns.fresh j d r e le, length-append v.shared.draws (m ∷ []));
+  replies = record {
+    below = h.replies.below;
+    newest = h.replies.newest;
+    fresh = λ j d r e le. omega (arith, h.replies.fresh j d r e le, length-append v.shared.draws (m ∷ []));
   };
   proved = h.proved;
 }
 
 -- the history grows by an entry of no carrying out
 
-pub lane_took : (l : Priority) (v : View) (id : ℕ) (r : List ℕ) → IsLane l v → IsLane l (with_entry (TookReply id r) v)
+pub lane_took : (l : Priority) (v : View) (id : ℕ) (r : List ℕ) → SoundLane l v → SoundLane l (with_written (TookReply id r) v)
 lane_took l v id r h = record { order = h.order; held = record { below = h.held.below; newest = h.held.newest; fresh = h.held.fresh; made = h.held.made; carried = h.held.carried; past = h.held.past; known = h.held.known };
-  places = h.places; returns = h.returns;
+  places = h.places; replies = h.replies;
   proved = record { unproven = h.proved.unproven; kept = h.proved.kept; quiet = h.proved.quiet; answered = h.proved.answered; reply = h.proved.reply; kept_reply = h.proved.kept_reply } }
 
-pub lane_noted : (l : Priority) (v : View) (n : Note) → IsLane l v → IsLane l (with_entry (Noted n) v)
+pub lane_noted : (l : Priority) (v : View) (n : Note) → SoundLane l v → SoundLane l (with_written (Noted n) v)
 lane_noted l v n h = record { order = h.order; held = record { below = h.held.below; newest = h.held.newest; fresh = h.held.fresh; made = h.held.made; carried = h.held.carried; past = h.held.past; known = h.held.known };
-  places = h.places; returns = h.returns;
+  places = h.places; replies = h.replies;
   proved = record { unproven = h.proved.unproven; kept = h.proved.kept; quiet = h.proved.quiet; answered = h.proved.answered; reply = h.proved.reply; kept_reply = h.proved.kept_reply } }
 
 -- a command of the other lane is carried out
@@ -248,8 +248,8 @@ lane_noted l v n h = record { order = h.order; held = record { below = h.held.be
 two_owners : (l m : Priority) (draws : List Priority) (i j : ℕ) → m ≢ l → Owner m draws i → Owner l draws j → i ≢ j
 two_owners l m draws i j ne a b e = ne (let f = ap (λ x. slice_get draws x) e in cc)
 
-pub lane_carried_beside : (l m : Priority) (v : View) (c : Command) (r : List ℕ) (before : Database) → m ≢ l → Owner m v.shared.draws c.id → IsLane l v
-    → IsLane l (with_entry (CarriedOut v.shared.life c.id r before) v)
+pub lane_carried_beside : (l m : Priority) (v : View) (c : Transaction) (r : List ℕ) (before : Database) → m ≢ l → Owner m v.shared.draws c.id → SoundLane l v
+    → SoundLane l (with_written (CarriedOut v.shared.life c.id r before) v)
 lane_carried_beside l m v c r before ne own h = record {
   order = h.order;
   held = record {
@@ -262,13 +262,13 @@ lane_carried_beside l m v c r before ne own h = record {
     known = λ life id was. ⊎_elim (λ e. omega (arith, slice_get_within v.shared.draws c.id m own)) (λ old. h.held.known life id old) was;
   };
   places = h.places;
-  returns = h.returns;
+  replies = h.replies;
   proved = record {
     unproven = h.proved.unproven;
     kept = h.proved.kept;
     quiet = h.proved.quiet;
     answered = h.proved.answered;
-    reply = λ o j q w b e le. inr (two_owners l m v.shared.draws c.id o.command.id ne own (h.order.waiting_owner o w), h.proved.reply o j q w b e le);
-    kept_reply = λ o k w b e f. inr (two_owners l m v.shared.draws c.id o.command.id ne own (h.order.waiting_owner o w), h.proved.kept_reply o k w b e f);
+    reply = λ o j q w b e le. inr (two_owners l m v.shared.draws c.id o.transaction.id ne own (h.order.waiting_owner o w), h.proved.reply o j q w b e le);
+    kept_reply = λ o k w b e f. inr (two_owners l m v.shared.draws c.id o.transaction.id ne own (h.order.waiting_owner o w), h.proved.kept_reply o k w b e f);
   };
 }

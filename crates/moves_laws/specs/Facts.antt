@@ -1,7 +1,7 @@
 -- What may happen next in a channel that moves have led to.
 use Rattle.std.specs.Prelude.{ℕ, ◌≡◌, ◌≢◌, Bool, true, List, length, Option, Some, slice_get}
 use Rattle.omci_types.specs.declared.Priority.{Priority}
-use Rattle.moves_spec.specs.Channel.{Command, number, Packet, Request, Reply, Kept, Outstanding, Channel, View, view_of, first_channel}
+use Rattle.moves_spec.specs.Channel.{Transaction, place_number, LinkPacket, RequestOf, ReplyTo, KeptReply, Outstanding, Channel, View, lane_view, first_channel}
 use Rattle.moves_spec.specs.Moves.{Move, may_go_down, may_go_up, after_moves}
 
 -- moves lead there from the start of both ends
@@ -12,34 +12,34 @@ pub record IsReached (w : Channel) : Type 0 where
   pub is : after_moves moves (first_channel low high) ≡ w
 
 -- a request of the command stands there, and may come to the unit
-pub record MayGoDown (l : Priority) (w : Channel) (at : ℕ) (c : Command) : Type 0 where
-  pub request : slice_get w.shared.packets at ≡ Some (Request l c)
-  pub may : may_go_down at (view_of l w) ≡ true
+pub record MayGoDown (l : Priority) (w : Channel) (at : ℕ) (c : Transaction) : Type 0 where
+  pub request : slice_get w.shared.packets at ≡ Some (RequestOf l c)
+  pub may : may_go_down at (lane_view l w) ≡ true
 
 -- and the unit doesn't keep its number, so that it is carried out where it is answered
-pub record MayBeCarriedOut (l : Priority) (w : Channel) (at : ℕ) (c : Command) : Type 0 where
+pub record MayBeCarriedOut (l : Priority) (w : Channel) (at : ℕ) (c : Transaction) : Type 0 where
   pub comes : MayGoDown l w at c
-  pub differs : (k : Kept) → (view_of l w).lane.kept ≡ Some k → number k.command.place ≢ number c.place
+  pub differs : (k : KeptReply) → (lane_view l w).lane.kept ≡ Some k → place_number k.transaction.place ≢ place_number c.place
 
 -- a reply to the command stands there, and may come to the manager
-pub record MayGoUp (l : Priority) (w : Channel) (at : ℕ) (c : Command) (bytes : List ℕ) : Type 0 where
-  pub reply : slice_get w.shared.packets at ≡ Some (Reply l c bytes)
-  pub may : may_go_up at (view_of l w) ≡ true
+pub record MayGoUp (l : Priority) (w : Channel) (at : ℕ) (c : Transaction) (bytes : List ℕ) : Type 0 where
+  pub reply : slice_get w.shared.packets at ≡ Some (ReplyTo l c bytes)
+  pub may : may_go_up at (lane_view l w) ≡ true
 
 -- and it has the number of the outstanding command, so that the manager may take it
-pub record MayBeTaken (l : Priority) (w : Channel) (at : ℕ) (c : Command) (bytes : List ℕ) (o : Outstanding) : Type 0 where
+pub record MayBeTaken (l : Priority) (w : Channel) (at : ℕ) (c : Transaction) (bytes : List ℕ) (o : Outstanding) : Type 0 where
   pub comes : MayGoUp l w at c bytes
-  pub waits : (view_of l w).lane.outstanding ≡ Some o
-  pub same : number c.place ≡ number o.command.place
+  pub waits : (lane_view l w).lane.outstanding ≡ Some o
+  pub same : place_number c.place ≡ place_number o.transaction.place
 
 -- the manager waits for the reply to that command
-pub record IsAwaited (l : Priority) (w : Channel) (c : Command) : Type 0 where
+pub record IsAwaited (l : Priority) (w : Channel) (c : Transaction) : Type 0 where
   pub outstanding : Outstanding
-  pub waits : (view_of l w).lane.outstanding ≡ Some outstanding
-  pub same : outstanding.command ≡ c
+  pub waits : (lane_view l w).lane.outstanding ≡ Some outstanding
+  pub same : outstanding.transaction ≡ c
 
 -- the unit keeps a reply under the number of that command
-pub record KeepsNumber (l : Priority) (w : Channel) (c : Command) : Type 0 where
-  pub kept : Kept
-  pub is : (view_of l w).lane.kept ≡ Some kept
-  pub same : number kept.command.place ≡ number c.place
+pub record KeepsNumber (l : Priority) (w : Channel) (c : Transaction) : Type 0 where
+  pub kept : KeptReply
+  pub is : (lane_view l w).lane.kept ≡ Some kept
+  pub same : place_number kept.transaction.place ≡ place_number c.place

@@ -5,7 +5,7 @@
 ghost use Rattle.std.specs.Prelude.{◌≡◌, ℕ, ◌≤◌, Bool, true, false, List};
 ghost use Rattle.omci_types.specs.declared.Priority.{Priority};
 ghost use Rattle.history_spec.specs.History.{Once, Answered, WasCarried, LastReply};
-ghost use Rattle.moves_spec.specs.Channel.{Command, Outstanding, Channel, view_of, first_channel};
+ghost use Rattle.moves_spec.specs.Channel.{Transaction, Outstanding, Channel, lane_view, first_channel};
 ghost use Rattle.moves_spec.specs.Moves.{Move, after_moves};
 ghost use Rattle.moves_laws.specs.Facts.{IsReached, MayGoDown, MayBeCarriedOut, MayGoUp, MayBeTaken, IsAwaited, KeepsNumber};
 
@@ -18,27 +18,27 @@ pub fn moves_act_once()
 
 /// What the unit can carry out was not carried out in this life, and in a proved lane it is the outstanding command.
 pub fn carrying_out()
-    ensures fresh { (l : Priority) (w : Channel) (at : ℕ) (c : Command) → IsReached w → MayBeCarriedOut l w at c
+    ensures fresh { (l : Priority) (w : Channel) (at : ℕ) (c : Transaction) → IsReached w → MayBeCarriedOut l w at c
         → WasCarried w.shared.life c.id w.shared.history → ⊥ }
-    ensures awaited { (l : Priority) (w : Channel) (at : ℕ) (c : Command) → IsReached w → (view_of l w).lane.proved ≡ true
+    ensures awaited { (l : Priority) (w : Channel) (at : ℕ) (c : Transaction) → IsReached w → (lane_view l w).lane.proved ≡ true
         → MayBeCarriedOut l w at c → IsAwaited l w c }
 {}
 
 /// A reply that can be taken is the outstanding command's own. The unit keeps that command's number. Where the command isn't
 /// a probe, it was carried out in this life of the unit, and the reply is that of the last time.
 pub fn taking()
-    ensures own { (l : Priority) (w : Channel) (at : ℕ) (c : Command) (bytes : List ℕ) (o : Outstanding) → IsReached w
-        → MayBeTaken l w at c bytes o → c ≡ o.command }
-    ensures kept { (l : Priority) (w : Channel) (at : ℕ) (c : Command) (bytes : List ℕ) (o : Outstanding) → IsReached w
+    ensures own { (l : Priority) (w : Channel) (at : ℕ) (c : Transaction) (bytes : List ℕ) (o : Outstanding) → IsReached w
+        → MayBeTaken l w at c bytes o → c ≡ o.transaction }
+    ensures kept { (l : Priority) (w : Channel) (at : ℕ) (c : Transaction) (bytes : List ℕ) (o : Outstanding) → IsReached w
         → MayBeTaken l w at c bytes o → KeepsNumber l w c }
-    ensures carried { (l : Priority) (w : Channel) (at : ℕ) (c : Command) (bytes : List ℕ) (o : Outstanding) → IsReached w
+    ensures carried { (l : Priority) (w : Channel) (at : ℕ) (c : Transaction) (bytes : List ℕ) (o : Outstanding) → IsReached w
         → MayBeTaken l w at c bytes o → c.probe ≡ false → WasCarried w.shared.life c.id w.shared.history }
-    ensures reply { (l : Priority) (w : Channel) (at : ℕ) (c : Command) (bytes : List ℕ) (o : Outstanding) → IsReached w
+    ensures reply { (l : Priority) (w : Channel) (at : ℕ) (c : Transaction) (bytes : List ℕ) (o : Outstanding) → IsReached w
         → MayBeTaken l w at c bytes o → c.probe ≡ false → LastReply c.id bytes w.shared.history }
 {}
 
 /// No request that may come is older than a reply that may come in its lane.
 pub fn order_of_packets()
-    ensures older { (l : Priority) (w : Channel) (up down : ℕ) (c d : Command) (bytes : List ℕ) → IsReached w
+    ensures older { (l : Priority) (w : Channel) (up down : ℕ) (c d : Transaction) (bytes : List ℕ) → IsReached w
         → MayGoUp l w up c bytes → MayGoDown l w down d → c.id ≤ d.id }
 {}
