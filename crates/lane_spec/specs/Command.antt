@@ -1,0 +1,66 @@
+-- A command: a request of the manager to an entity, with the packet that it sends under a TCI and the frames that answer it.
+use Rattle.std.specs.Prelude.{ℕ, ◌+◌, ◌==◌, ◌&&◌, ◌||◌, Bool, true, false, List, [], ◌∷◌}
+use Rattle.omci_types.specs.declared.EntityId.{EntityId}
+use Rattle.omci_types.specs.declared.Frame.{Frame}
+use Rattle.message_spec.specs.declared.Message.TheVariants.{Asked}
+use Rattle.message_spec.specs.declared.Request.{Request}
+use Rattle.message_spec.specs.declared.Request.TheVariants as request
+use Rattle.message_spec.specs.Reading.{plain}
+use Rattle.frame_spec.specs.Baseline.{spelling}
+
+-- The request that is asked of an entity. A probe is a get of MIB data sync that proves the lane by any answer.
+pub record Command : Type 0 where
+  pub probe : Bool
+  pub entity : EntityId
+  pub request : Request
+
+-- ONU data, and the mask of its attribute 1, which is MIB data sync
+abbrev pub sync_entity : EntityId
+sync_entity = record { class = 2; instance = 0 }
+
+abbrev pub sync_request : Request
+sync_request = request.Get 0x8000
+
+abbrev pub probe_command : Command
+probe_command = record { probe = true; entity = sync_entity; request = sync_request }
+
+-- a request for an entity
+abbrev pub ask : EntityId → Request → Command
+ask entity r = record { probe = false; entity = entity; request = r }
+
+-- the command's frame under a TCI
+unfoldable pub command_frame : ℕ → Command → Frame
+command_frame tci c = plain (Asked tci c.entity c.request)
+
+-- the packets that the command sends each time
+abbrev pub command_packets : ℕ → Command → List (List ℕ)
+command_packets tci c = spelling (command_frame tci c) ∷ []
+
+abbrev pub same_entity : EntityId → EntityId → Bool
+same_entity a b = (a.class == b.class) && (a.instance == b.instance)
+
+-- whether a frame is the response to a request: it is of the request's type with AK in place of AR, and names its entity
+abbrev pub is_response : Frame → Frame → Bool
+is_response asked f = (f.kind + 0x20 == asked.kind) && same_entity f.entity asked.entity
+
+-- Whether a frame answers a command that has that TCI. A probe is answered by every frame under its TCI.
+abbrev pub answers : ℕ → Command → Frame → Bool
+answers tci c f = (f.tci == tci) && (c.probe || is_response (command_frame tci c) f)
+
+-- whether a request changes what the unit holds or runs
+abbrev pub is_changing : Request → Bool
+is_changing (request.Create values) = true
+is_changing request.Delete = true
+is_changing (request.Set mask values) = true
+is_changing request.Reset = true
+is_changing (request.Activate flags) = true
+is_changing request.Commit = true
+is_changing (request.Reboot flags) = true
+is_changing (request.Get mask) = false
+is_changing (request.Alarms mode) = false
+is_changing (request.AlarmsNext number) = false
+is_changing request.Upload = false
+is_changing (request.UploadNext number) = false
+is_changing (request.Start window size targets target) = false
+is_changing (request.Section number bytes last) = false
+is_changing (request.End crc size targets target) = false
