@@ -3,7 +3,7 @@ use Rattle.std.proofs.Common.{◌≡◌, ◌≢◌, ℕ, zero, suc, ◌+◌, ◌
 use Rattle.std.proofs.lemmas.Option.{slice_get_within, same_Some}
 use Rattle.omci_types.specs.declared.Priority.{Priority}
 use Rattle.history_spec.specs.History.{Entry, WasCarried, LastReply}
-use Rattle.moves_spec.specs.Limits.{window}
+use Rattle.link_spec.specs.declared.TheConstants.{WINDOW}
 use Rattle.moves_spec.specs.Channel.{Transaction, place_number, LinkPacket, RequestOf, ReplyTo, KeptReply, Outstanding, View}
 use Rattle.moves_spec.specs.Moves.{drawn_transaction, outstanding_of, with_draw, with_end}
 use Rattle.moves_laws.proofs.Parts.{Asks, Replies, Owner, Before, OrderPart, HeldPart, Past, Own, Placed, Apart, Harmless, PlacesPart, RepliesPart, ProvedPart, PlacesIn, SoundLane}
@@ -15,13 +15,13 @@ use Rattle.moves_laws.proofs.Serving.{waits_proved}
 pub record Takes (l : Priority) (v : View) (j : ℕ) (c : Transaction) (r : List ℕ) (o : Outstanding) : Type 0 where
   pub reply : Replies l v.shared.packets j c r
   pub at_floor : v.lane.floor_up ≡ j
-  pub within : length v.shared.packets ≤ j + window
+  pub within : length v.shared.packets ≤ j + WINDOW
   pub waits : v.lane.outstanding ≡ Some o
   pub same : place_number c.place ≡ place_number o.transaction.place
 
 -- so it is of that command, which cost a request and a reply
 taken_placed : (l : Priority) (v : View) (j : ℕ) (c : Transaction) (r : List ℕ) (o : Outstanding) → Takes l v j c r o → PlacesIn l v
-    → Placed v.lane.outstanding v.lane.place v.lane.since j c window 1 → (c ≡ o.transaction) × (v.lane.since + 2 ≤ length v.shared.packets)
+    → Placed v.lane.outstanding v.lane.place v.lane.since j c WINDOW 1 → (c ≡ o.transaction) × (v.lane.since + 2 ≤ length v.shared.packets)
 taken_placed l v j c r o t h (inl p) =
     absurd (past_reply v.lane.place v.lane.since j (length v.shared.packets) c h.begun t.within p (let s = t.same in let m = ap place_number (h.shape o t.waits) in cc))
 taken_placed l v j c r o t h (inr p) =
@@ -70,7 +70,7 @@ lane_ended l v proved o w more kept quiet h = record {
     cost = λ p e. absurd (cc);
     requests = λ i c e le. placed_ended v.lane.outstanding o _ _ _ i c 0 0 w (h.places.shape o w) more
       (slice_get_within v.shared.packets i _ e) (h.places.requests i c e le);
-    replies = λ j c r e le. placed_ended v.lane.outstanding o _ _ _ j c window 1 w (h.places.shape o w) more
+    replies = λ j c r e le. placed_ended v.lane.outstanding o _ _ _ j c WINDOW 1 w (h.places.shape o w) more
       (slice_get_within v.shared.packets j _ e) (h.places.replies j c r e le);
   };
   replies = record {
@@ -176,7 +176,7 @@ lane_drawn l v probe packets w allowed h =
         shape = λ p e. sym (ap (λ x. x.place) (drawn_is new p e).0);
         cost = λ p e. omega (arith, (drawn_is new p e).1);
         requests = λ i c e le. placed_drawn v.lane.outstanding _ _ _ _ i c 0 0 w h.places.begun (h.places.requests i c e le);
-        replies = λ j c r e le. placed_drawn v.lane.outstanding _ _ _ _ j c window 1 w h.places.begun (h.places.replies j c r e le);
+        replies = λ j c r e le. placed_drawn v.lane.outstanding _ _ _ _ j c WINDOW 1 w h.places.begun (h.places.replies j c r e le);
       };
       replies = record {
         below = h.replies.below;

@@ -3,7 +3,7 @@
 use Rattle.std.proofs.Common.{◌≡◌, ◌≢◌, ℕ, ◌+◌, ◌*◌, ◌<◌, ◌≤◌, Bool, true, false, List, length, Option, Some, slice_get, ◌⊎◌}
 use Rattle.omci_types.specs.declared.Priority.{Priority}
 use Rattle.history_spec.specs.History.{Entry, WasCarried, LastReply, Once, Answered}
-use Rattle.moves_spec.specs.Limits.{window}
+use Rattle.link_spec.specs.declared.TheConstants.{WINDOW}
 use Rattle.moves_spec.specs.Channel.{Transaction, place_number, LinkPacket, RequestOf, ReplyTo, KeptReply, Outstanding, Channel, View, lane_view}
 use Rattle.omci_types.specs.declared.Priority.TheVariants.{Low, High}
 
@@ -61,7 +61,7 @@ pub record PlacesPart (l : Priority) (packets : List LinkPacket) (down up : ℕ)
   pub shape : (o : Outstanding) → waits ≡ Some o → o.transaction.place ≡ place
   pub cost : (o : Outstanding) → waits ≡ Some o → since + o.sent ≤ length packets
   pub requests : (i : ℕ) (c : Transaction) → Asks l packets i c → down ≤ i → Placed waits place since i c 0 0
-  pub replies : (j : ℕ) (c : Transaction) (r : List ℕ) → Replies l packets j c r → up ≤ j → Placed waits place since j c window 1
+  pub replies : (j : ℕ) (c : Transaction) (r : List ℕ) → Replies l packets j c r → up ≤ j → Placed waits place since j c WINDOW 1
 
 -- no request that may come is older than a reply that may come
 pub record RepliesPart (l : Priority) (packets : List LinkPacket) (draws : List Priority) (down up : ℕ) (waits : Option Outstanding) : Type 0 where

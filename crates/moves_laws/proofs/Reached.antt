@@ -3,7 +3,7 @@ use Rattle.std.proofs.Common.{◌≡◌, ◌≢◌, ℕ, ◌+◌, ◌<◌, ◌�
 use Rattle.omci_types.specs.declared.Priority.{Priority}
 use Rattle.omci_types.specs.declared.Priority.TheVariants.{Low, High}
 use Rattle.history_spec.specs.History.{WasCarried, LastReply}
-use Rattle.moves_spec.specs.Limits.{window}
+use Rattle.link_spec.specs.declared.TheConstants.{WINDOW}
 use Rattle.moves_spec.specs.Channel.{Transaction, place_number, LinkPacket, RequestOf, ReplyTo, KeptReply, Outstanding, Channel, View, lane_view}
 use Rattle.moves_spec.specs.Moves.{with_floor_down, with_floor_up}
 use Rattle.moves_laws.specs.Facts.{IsReached, MayGoDown, MayBeCarriedOut, MayGoUp, MayBeTaken, IsAwaited, KeepsNumber}

@@ -4,10 +4,10 @@ use Rattle.omci_types.specs.declared.Priority.{Priority}
 use Rattle.omci_types.specs.declared.Priority.TheVariants.{Low, High}
 use Rattle.history_spec.specs.History.{Noted, Once, Answered}
 use Rattle.moves_spec.specs.Channel.{Transaction, LinkPacket, RequestOf, ReplyTo, Unasked, Channel, View, lane_view, with_lane_view, first_lane_state, first_shared, first_channel}
-use Rattle.moves_spec.specs.Moves.{Execution, Move, Draw, Send, GiveUp, RequestComes, ReplyComes, Notify, Write, StartUnit, StartManager, may_go, request_at, notice_if, reply_at, after_move, after_moves}
+use Rattle.moves_spec.specs.Moves.{Execution, Move, Draw, Send, GiveUp, RequestComes, ReplyComes, Notify, Write, UnitStarts, ManagerStarts, may_go, request_at, notice_if, reply_at, after_move, after_moves}
 use Rattle.moves_laws.proofs.Parts.{SoundLane, SoundChannel}
 use Rattle.moves_laws.proofs.Others.{lane_unit_start, lane_manager_start, Foreign, lane_beside, lane_noted}
-use Rattle.moves_laws.proofs.Steps.{Step, step_draw, step_send, step_give_up, step_request, step_reply, step_up, may_floor}
+use Rattle.moves_laws.proofs.Steps.{LaneStep, step_draw, step_send, step_give_up, step_request, step_reply, step_up, may_floor}
 
 pub lane_of : (l : Priority) (w : Channel) → SoundChannel w → SoundLane l (lane_view l w)
 lane_of Low w h = h.low
@@ -19,7 +19,7 @@ low_not_high e = cc
 high_not_low : High ≢ Low
 high_not_low e = cc
 
-kept_by_step : (l : Priority) (w : Channel) (v : View) → SoundChannel w → Step l (lane_view l w) v → SoundChannel (with_lane_view l v w)
+kept_by_step : (l : Priority) (w : Channel) (v : View) → SoundChannel w → LaneStep l (lane_view l w) v → SoundChannel (with_lane_view l v w)
 kept_by_step Low w v h s = record {
   low = s.lane;
   high = s.other High w.high low_not_high h.high;
@@ -72,13 +72,13 @@ kept_by_move (Write note) w h = record {
   once = h.once;
   answered = h.answered;
 }
-kept_by_move StartUnit w h = record {
+kept_by_move UnitStarts w h = record {
   low = lane_unit_start Low (lane_view Low w) h.low;
   high = lane_unit_start High (lane_view High w) h.high;
   once = h.once;
   answered = h.answered;
 }
-kept_by_move (StartManager low high) w h = record {
+kept_by_move (ManagerStarts low high) w h = record {
   low = lane_manager_start Low (lane_view Low w) low h.low;
   high = lane_manager_start High (lane_view High w) high h.high;
   once = h.once;

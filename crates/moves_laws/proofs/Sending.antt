@@ -3,7 +3,7 @@ use Rattle.std.proofs.Common.{◌≡◌, ◌≢◌, ℕ, zero, suc, ◌+◌, ◌
 use Rattle.std.proofs.lemmas.Option.{slice_get_within}
 use Rattle.omci_types.specs.declared.Priority.{Priority}
 use Rattle.history_spec.specs.History.{Entry}
-use Rattle.moves_spec.specs.Limits.{window}
+use Rattle.link_spec.specs.declared.TheConstants.{WINDOW}
 use Rattle.moves_spec.specs.Channel.{Transaction, place_number, LinkPacket, RequestOf, ReplyTo, KeptReply, Outstanding, View}
 use Rattle.moves_spec.specs.Moves.{with_packet, with_requests, with_sent}
 use Rattle.moves_laws.proofs.Parts.{Asks, Replies, Owner, Before, OrderPart, HeldPart, Past, Own, Placed, Apart, Harmless, PlacesPart, RepliesPart, ProvedPart, SoundLane}
@@ -130,7 +130,7 @@ lane_counted l v o count w more h = record {
     shape = λ p e. grind (arith, h.places.shape);
     cost = λ p e. grind (arith, h.places.cost);
     requests = λ i c e le. placed_counted v.lane.outstanding o w count _ _ i c 0 0 (h.places.requests i c e le);
-    replies = λ j c r e le. placed_counted v.lane.outstanding o w count _ _ j c window 1 (h.places.replies j c r e le);
+    replies = λ j c r e le. placed_counted v.lane.outstanding o w count _ _ j c WINDOW 1 (h.places.replies j c r e le);
   };
   replies = record {
     below = h.replies.below;

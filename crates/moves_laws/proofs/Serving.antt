@@ -3,9 +3,9 @@ use Rattle.std.proofs.Common.{◌≡◌, ◌≢◌, ℕ, zero, suc, ◌+◌, ◌
 use Rattle.std.proofs.lemmas.Option.{slice_get_within}
 use Rattle.omci_types.specs.declared.Priority.{Priority}
 use Rattle.history_spec.specs.History.{Entry, CarriedOut, WasCarried, LastReply}
-use Rattle.moves_spec.specs.Limits.{window}
+use Rattle.link_spec.specs.declared.TheConstants.{WINDOW}
 use Rattle.moves_spec.specs.Channel.{Transaction, place_number, LinkPacket, RequestOf, ReplyTo, KeptReply, Outstanding, View}
-use Rattle.moves_spec.specs.Moves.{Execution, with_packet, with_carried}
+use Rattle.moves_spec.specs.Moves.{Execution, with_packet, with_execution}
 use Rattle.moves_laws.proofs.Parts.{Asks, Replies, Owner, Before, OrderPart, HeldPart, Past, Own, Placed, Apart, Harmless, PlacesPart, RepliesPart, ProvedPart, OrderIn, HeldIn, PlacesIn, ProvedIn, SoundLane}
 use Rattle.moves_laws.proofs.Lists.{got}
 use Rattle.moves_laws.proofs.Numbers.{past_request}
@@ -14,7 +14,7 @@ use Rattle.moves_laws.proofs.Numbers.{past_request}
 pub record Comes (l : Priority) (v : View) (i : ℕ) (c : Transaction) : Type 0 where
   pub request : Asks l v.shared.packets i c
   pub at_floor : v.lane.floor_down ≡ i
-  pub within : length v.shared.packets ≤ i + window
+  pub within : length v.shared.packets ≤ i + WINDOW
 
 -- the unit doesn't keep the command's number
 pub record Unkept (keeps : Option KeptReply) (c : Transaction) : Type 0 where
@@ -32,7 +32,7 @@ carry_once l v i c s u h was =
 abbrev kept_of : Transaction → Execution → KeptReply
 kept_of c a = record { transaction = c; reply = a.reply }
 
-held_carried : (l : Priority) (v : View) (i : ℕ) (c : Transaction) (a : Execution) → Comes l v i c → OrderIn l v → HeldIn l v → HeldIn l (with_carried c a v)
+held_carried : (l : Priority) (v : View) (i : ℕ) (c : Transaction) (a : Execution) → Comes l v i c → OrderIn l v → HeldIn l v → HeldIn l (with_execution c a v)
 held_carried l v i c a s o h = record {
   below = λ k j d e f le. grind (arith, o.sorted, s.request, s.at_floor);
   newest = λ k w e f. grind (arith, o.newest, s.request);
@@ -74,7 +74,7 @@ harmless_carried l v i c a s u h j d e le (inl p) =
     inl (p.0, p.1, down.same (omega (arith, up.le, down.le)))
 harmless_carried l v i c a s u h j d e le (inr p) = absurd (u.differs p.0 p.1 p.2)
 
-proved_carried : (l : Priority) (v : View) (i : ℕ) (c : Transaction) (a : Execution) → Comes l v i c → Unkept v.lane.kept c → SoundLane l v → ProvedIn l (with_carried c a v)
+proved_carried : (l : Priority) (v : View) (i : ℕ) (c : Transaction) (a : Execution) → Comes l v i c → Unkept v.lane.kept c → SoundLane l v → ProvedIn l (with_execution c a v)
 proved_carried l v i c a s u h =
     let kept = apart_carried l v i c a s h.places (h.places.requests i c s.request (omega (arith, s.at_floor))) in
     record {
@@ -86,7 +86,7 @@ proved_carried l v i c a s u h =
       kept_reply = λ o k w b e f. inl ((let g : c ≡ k.transaction = cc in cc), (let g : a.reply ≡ k.reply = cc in g));
     }
 
-pub lane_carried : (l : Priority) (v : View) (i : ℕ) (c : Transaction) (a : Execution) → Comes l v i c → Unkept v.lane.kept c → SoundLane l v → SoundLane l (with_carried c a v)
+pub lane_carried : (l : Priority) (v : View) (i : ℕ) (c : Transaction) (a : Execution) → Comes l v i c → Unkept v.lane.kept c → SoundLane l v → SoundLane l (with_execution c a v)
 lane_carried l v i c a s u h = record {
   order = h.order;
   held = held_carried l v i c a s h.order h.held;
@@ -105,7 +105,7 @@ pub record KeepsReply (keeps : Option KeptReply) (c : Transaction) (r : List ℕ
 -- its packet stands at most a window past the request
 placed_reply : (l : Priority) (v : View) (i : ℕ) (c : Transaction) → Comes l v i c
     → Placed v.lane.outstanding v.lane.place v.lane.since i c 0 0
-    → Placed v.lane.outstanding v.lane.place v.lane.since (length v.shared.packets) c window 1
+    → Placed v.lane.outstanding v.lane.place v.lane.since (length v.shared.packets) c WINDOW 1
 placed_reply l v i c s (inl p) = inl (record { ended = p.ended; far = omega (arith, p.far, s.within) })
 placed_reply l v i c s (inr p) =
     inr (record { outstanding = p.outstanding; is = p.is; same = p.same; from = omega (arith, p.from, slice_get_within v.shared.packets i _ s.request) })
@@ -154,8 +154,8 @@ lane_replied l v i c r s t h =
           (λ g.
             let a : c ≡ d = cc in
             let b : length v.shared.packets ≡ j = cc in
-            subst (λ x. Placed v.lane.outstanding v.lane.place v.lane.since x d window 1) b
-              (subst (λ x. Placed v.lane.outstanding v.lane.place v.lane.since (length v.shared.packets) x window 1) a placed))
+            subst (λ x. Placed v.lane.outstanding v.lane.place v.lane.since x d WINDOW 1) b
+              (subst (λ x. Placed v.lane.outstanding v.lane.place v.lane.since (length v.shared.packets) x WINDOW 1) a placed))
           (got v.shared.packets _ j _ e);
       };
       replies = record {

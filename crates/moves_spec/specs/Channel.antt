@@ -1,23 +1,25 @@
--- The channel: the packets that were ever sent, what both ends hold of each lane, and the history.
+-- The channel between the two ends: the packets that were ever sent, what both ends hold of each
+-- lane, and the history.
 use Rattle.std.specs.Prelude.{ℕ, ◌+◌, ◌%◌, Bool, true, false, List, [], Option, Some, None}
 use Rattle.omci_types.specs.declared.Priority.{Priority}
 use Rattle.omci_types.specs.declared.Priority.TheVariants.{Low, High}
 use Rattle.history_spec.specs.History.{Entry}
-use Rattle.moves_spec.specs.Limits.{last_number}
+use Rattle.tci_spec.specs.declared.TheConstants.{LAST_NUMBER}
 
--- A command that a manager drew. Its id is its number over the whole run. Its place counts the draws in its lane, and gives
--- the number in its TCI. The packets are those of each time that it is sent.
+-- A command as a manager drew it. Its id is its number over the whole run. Its place counts the
+-- draws in its lane, and gives the number in its TCI. The packets are those of each time that it is
+-- sent.
 pub record Transaction : Type 0 where
   pub id : ℕ
   pub place : ℕ
   pub probe : Bool
   pub packets : List (List ℕ)
 
--- the number in the TCI of the command at that place of its lane
+-- the number in the TCI of the transaction at that place of its lane
 unfoldable pub place_number : ℕ → ℕ
-place_number place = place % last_number + 1
+place_number place = place % LAST_NUMBER + 1
 
--- a packet on the link, with the command that it belongs to; a notice belongs to none
+-- A packet on the link with the transaction that it belongs to. A notice belongs to none.
 pub data LinkPacket : Type 0 where
   RequestOf : (lane : Priority) (transaction : Transaction) → LinkPacket
   ReplyTo : (lane : Priority) (transaction : Transaction) (bytes : List ℕ) → LinkPacket
@@ -33,9 +35,9 @@ pub record Outstanding : Type 0 where
   pub transaction : Transaction
   pub sent : ℕ
 
--- What the two ends and the link hold of one lane. No packet below a floor may come. The place is that of the outstanding
--- command, or of the next one where there is none. Since is how many packets had been sent when the outstanding command was
--- drawn, or when the last one ended.
+-- What the two ends and the link hold of one lane. No packet below a floor may come. The place is
+-- that of the outstanding command, or of the next one where there is none. Since is how many packets
+-- had been sent when the outstanding command was drawn, or when the last one ended.
 pub record LaneState : Type 0 where
   pub floor_down : ℕ
   pub floor_up : ℕ
@@ -45,8 +47,8 @@ pub record LaneState : Type 0 where
   pub since : ℕ
   pub outstanding : Option Outstanding
 
--- What the lanes share: the packets, oldest first; the lane of each command by its id; how many lives the unit began; and
--- the history, newest first.
+-- What the lanes share: the packets, oldest first; the lane of each command, by its id; in which
+-- life the unit is; and the history, newest first.
 pub record Shared : Type 0 where
   pub packets : List LinkPacket
   pub draws : List Priority
@@ -71,7 +73,7 @@ abbrev pub with_lane_view : Priority → View → Channel → Channel
 with_lane_view Low v w = record { shared = v.shared; low = v.lane; high = w.high }
 with_lane_view High v w = record { shared = v.shared; low = w.low; high = v.lane }
 
--- the channel when both ends have just started, the first number of each lane being that at a place
+-- The channel when both ends have just started. The first number of a lane is that of a place.
 abbrev pub first_lane_state : ℕ → LaneState
 first_lane_state place = record {
   floor_down = 0;
