@@ -1,5 +1,5 @@
 -- A number comes again only after 32,767 places, and a packet that may come isn't so old.
-use Rattle.std.proofs.Common.{◌≡◌, ◌≢◌, ℕ, suc, ◌+◌, ◌*◌, ◌%◌, ◌-◌, ◌<◌, ◌≤◌, arith}
+use Rattle.std.proofs.Common.{◌≡◌, ◌≢◌, ℕ, ◌+◌, ◌-◌, ◌<◌, ◌≤◌, arith}
 use Rattle.std.proofs.lemmas.Bool.Decides.{nat_tests}
 use Rattle.tci_spec.specs.Tci.{IsNumber, number_after}
 use Rattle.tci_spec.specs.declared.TheConstants.{LAST_NUMBER}
@@ -12,11 +12,13 @@ unfolding place_number
 apart a b lt le e = omega arith
 
 -- a request that may come and is of a command that ended has another number than the lane's
-pub past_request : (place since i count : ℕ) (c : Transaction) → since ≤ count → count ≤ i + WINDOW → Past place since i c 0 → place_number c.place ≢ place_number place
+pub past_request : (place since i count : ℕ) (c : Transaction) → since ≤ count → count ≤ i + WINDOW
+    → Past place since i c 0 → place_number c.place ≢ place_number place
 past_request place since i count c begun within p = apart c.place place p.ended (omega (arith, p.far))
 
 -- so has a reply
-pub past_reply : (place since j count : ℕ) (c : Transaction) → since ≤ count → count ≤ j + WINDOW → Past place since j c WINDOW → place_number c.place ≢ place_number place
+pub past_reply : (place since j count : ℕ) (c : Transaction) → since ≤ count → count ≤ j + WINDOW
+    → Past place since j c WINDOW → place_number c.place ≢ place_number place
 past_reply place since j count c begun within p = apart c.place place p.ended (omega (arith, p.far))
 
 -- the next place has the number after it

@@ -1,15 +1,16 @@
 -- Floors rise, an end starts, and what happens in the other lane.
-use Rattle.std.proofs.Common.{◌≡◌, ◌≢◌, ℕ, zero, suc, ◌+◌, ◌*◌, ◌<◌, ◌≤◌, Bool, true, false, List, [], ◌∷◌, ◌++◌, length, Option, Some, None, slice_get, ◌⊎◌, inl, inr, ⊎_elim, refl, sym, ap, subst, arith, length-append}
+use Rattle.std.proofs.Common.{◌≢◌, ℕ, ◌≤◌, List, [], ◌∷◌, ◌++◌, slice_get, inr, ⊎_elim, ap, arith, length-append}
 use Rattle.std.proofs.lemmas.Option.{slice_get_within}
 use Rattle.omci_types.specs.declared.Priority.{Priority}
 use Rattle.mib_spec.specs.Database.{Database}
-use Rattle.history_spec.specs.History.{Note, Entry, CarriedOut, TookReply, Noted, WasCarried, LastReply}
-use Rattle.moves_spec.specs.Channel.{Transaction, LinkPacket, RequestOf, ReplyTo, KeptReply, Outstanding, View}
+use Rattle.history_spec.specs.History.{Note, CarriedOut, TookReply, Noted}
+use Rattle.moves_spec.specs.Channel.{Transaction, LinkPacket, RequestOf, ReplyTo, View}
 use Rattle.moves_spec.specs.Moves.{with_packet, with_requests, with_floor_down, with_floor_up, with_unit_start, with_manager_start, with_written}
-use Rattle.moves_laws.proofs.Parts.{Asks, Replies, Owner, Before, OrderPart, HeldPart, Past, Own, Placed, Apart, PlacesPart, RepliesPart, ProvedPart, SoundLane}
+use Rattle.moves_laws.proofs.Parts.{Asks, Replies, Owner, SoundLane}
 use Rattle.moves_laws.proofs.Lists.{got, still, nothing}
 
-pub lane_lowered_down : (l : Priority) (v : View) (i : ℕ) → v.lane.floor_down ≤ i → SoundLane l v → SoundLane l (with_floor_down i v)
+pub lane_lowered_down : (l : Priority) (v : View) (i : ℕ) → v.lane.floor_down ≤ i → SoundLane l v
+    → SoundLane l (with_floor_down i v)
 lane_lowered_down l v i up h = record {
   order = h.order;
   held = record {
@@ -43,7 +44,8 @@ lane_lowered_down l v i up h = record {
   };
 }
 
-pub lane_lowered_up : (l : Priority) (v : View) (i : ℕ) → v.lane.floor_up ≤ i → SoundLane l v → SoundLane l (with_floor_up i v)
+pub lane_lowered_up : (l : Priority) (v : View) (i : ℕ) → v.lane.floor_up ≤ i → SoundLane l v
+    → SoundLane l (with_floor_up i v)
 lane_lowered_up l v i up h = record {
   order = h.order;
   held = h.held;
@@ -105,7 +107,8 @@ lane_unit_start l v h = record {
   };
 }
 
-pub lane_manager_start : (l : Priority) (v : View) (place : ℕ) → SoundLane l v → SoundLane l (with_manager_start place v)
+pub lane_manager_start : (l : Priority) (v : View) (place : ℕ) → SoundLane l v
+    → SoundLane l (with_manager_start place v)
 lane_manager_start l v place h = record {
   order = record {
     sorted = h.order.sorted;
@@ -149,12 +152,13 @@ pub record Foreign (l : Priority) (x : LinkPacket) : Type 0 where
   pub no_request : (c : Transaction) → x ≢ RequestOf l c
   pub no_reply : (c : Transaction) (r : List ℕ) → x ≢ ReplyTo l c r
 
-pub lane_beside : (l : Priority) (v : View) (x : LinkPacket) → Foreign l x → SoundLane l v → SoundLane l (with_packet x v)
+pub lane_beside : (l : Priority) (v : View) (x : LinkPacket) → Foreign l x → SoundLane l v
+    → SoundLane l (with_packet x v)
 lane_beside l v x n h =
     let asks : (i : ℕ) (c : Transaction) → Asks l (v.shared.packets ++ x ∷ []) i c → Asks l v.shared.packets i c =
-      λ i c e. ⊎_elim (λ f. f) (λ g. absurd (n.no_request c g.1)) (got v.shared.packets x i _ e) in
+    λ i c e. ⊎_elim (λ f. f) (λ g. absurd (n.no_request c g.1)) (got v.shared.packets x i _ e) in
     let replies : (j : ℕ) (c : Transaction) (r : List ℕ) → Replies l (v.shared.packets ++ x ∷ []) j c r → Replies l v.shared.packets j c r =
-      λ j c r e. ⊎_elim (λ f. f) (λ g. absurd (n.no_reply c r g.1)) (got v.shared.packets x j _ e) in
+    λ j c r e. ⊎_elim (λ f. f) (λ g. absurd (n.no_reply c r g.1)) (got v.shared.packets x j _ e) in
     record {
       order = record {
         sorted = λ i j c d e f le. h.order.sorted i j c d (asks i c e) (asks j d f) le;
@@ -193,7 +197,8 @@ lane_beside l v x n h =
       };
     }
 
-pub lane_beside_all : (l m : Priority) (c : Transaction) (packets : List (List ℕ)) (v : View) → Foreign l (RequestOf m c) → SoundLane l v
+pub lane_beside_all : (l m : Priority) (c : Transaction) (packets : List (List ℕ)) (v : View)
+    → Foreign l (RequestOf m c) → SoundLane l v
     → SoundLane l (with_requests m c packets v)
 lane_beside_all l m c [] v n h = h
 lane_beside_all l m c (p ∷ rest) v n h = lane_beside_all l m c rest (with_packet (RequestOf m c) v) n (lane_beside l v (RequestOf m c) n h)
@@ -202,10 +207,12 @@ lane_beside_all l m c (p ∷ rest) v n h = lane_beside_all l m c rest (with_pack
 abbrev pub more_drawn : Priority → View → View
 more_drawn m v = record v { shared = record v.shared { draws = v.shared.draws ++ m ∷ [] } }
 
-owner_before : (l m : Priority) (draws : List Priority) (id : ℕ) → m ≢ l → Owner l (draws ++ m ∷ []) id → Owner l draws id
+owner_before : (l m : Priority) (draws : List Priority) (id : ℕ) → m ≢ l
+    → Owner l (draws ++ m ∷ []) id → Owner l draws id
 owner_before l m draws id ne e = ⊎_elim (λ f. f) (λ g. absurd (ne g.1)) (got draws m id l e)
 
-pub lane_more_drawn : (l m : Priority) (v : View) → m ≢ l → SoundLane l v → SoundLane l (more_drawn m v)
+pub lane_more_drawn : (l m : Priority) (v : View) → m ≢ l → SoundLane l v
+    → SoundLane l (more_drawn m v)
 lane_more_drawn l m v ne h = record {
   order = record {
     sorted = h.order.sorted;
@@ -233,22 +240,34 @@ lane_more_drawn l m v ne h = record {
 
 -- the history grows by an entry of no carrying out
 
-pub lane_took : (l : Priority) (v : View) (id : ℕ) (r : List ℕ) → SoundLane l v → SoundLane l (with_written (TookReply id r) v)
-lane_took l v id r h = record { order = h.order; held = record { below = h.held.below; newest = h.held.newest; fresh = h.held.fresh; made = h.held.made; carried = h.held.carried; past = h.held.past; known = h.held.known };
-  places = h.places; replies = h.replies;
-  proved = record { unproven = h.proved.unproven; kept = h.proved.kept; quiet = h.proved.quiet; answered = h.proved.answered; reply = h.proved.reply; kept_reply = h.proved.kept_reply } }
+pub lane_took : (l : Priority) (v : View) (id : ℕ) (r : List ℕ) → SoundLane l v
+    → SoundLane l (with_written (TookReply id r) v)
+lane_took l v id r h = record {
+  order = h.order;
+  held = record { below = h.held.below; newest = h.held.newest; fresh = h.held.fresh; made = h.held.made; carried = h.held.carried; past = h.held.past; known = h.held.known };
+  places = h.places;
+  replies = h.replies;
+  proved = record { unproven = h.proved.unproven; kept = h.proved.kept; quiet = h.proved.quiet; answered = h.proved.answered; reply = h.proved.reply; kept_reply = h.proved.kept_reply };
+}
 
-pub lane_noted : (l : Priority) (v : View) (n : Note) → SoundLane l v → SoundLane l (with_written (Noted n) v)
-lane_noted l v n h = record { order = h.order; held = record { below = h.held.below; newest = h.held.newest; fresh = h.held.fresh; made = h.held.made; carried = h.held.carried; past = h.held.past; known = h.held.known };
-  places = h.places; replies = h.replies;
-  proved = record { unproven = h.proved.unproven; kept = h.proved.kept; quiet = h.proved.quiet; answered = h.proved.answered; reply = h.proved.reply; kept_reply = h.proved.kept_reply } }
+pub lane_noted : (l : Priority) (v : View) (n : Note) → SoundLane l v
+    → SoundLane l (with_written (Noted n) v)
+lane_noted l v n h = record {
+  order = h.order;
+  held = record { below = h.held.below; newest = h.held.newest; fresh = h.held.fresh; made = h.held.made; carried = h.held.carried; past = h.held.past; known = h.held.known };
+  places = h.places;
+  replies = h.replies;
+  proved = record { unproven = h.proved.unproven; kept = h.proved.kept; quiet = h.proved.quiet; answered = h.proved.answered; reply = h.proved.reply; kept_reply = h.proved.kept_reply };
+}
 
 -- a command of the other lane is carried out
 
-two_owners : (l m : Priority) (draws : List Priority) (i j : ℕ) → m ≢ l → Owner m draws i → Owner l draws j → i ≢ j
+two_owners : (l m : Priority) (draws : List Priority) (i j : ℕ) → m ≢ l → Owner m draws i
+    → Owner l draws j → i ≢ j
 two_owners l m draws i j ne a b e = ne (let f = ap (λ x. slice_get draws x) e in cc)
 
-pub lane_carried_beside : (l m : Priority) (v : View) (c : Transaction) (r : List ℕ) (before : Database) → m ≢ l → Owner m v.shared.draws c.id → SoundLane l v
+pub lane_carried_beside : (l m : Priority) (v : View) (c : Transaction) (r : List ℕ)
+    (before : Database) → m ≢ l → Owner m v.shared.draws c.id → SoundLane l v
     → SoundLane l (with_written (CarriedOut v.shared.life c.id r before) v)
 lane_carried_beside l m v c r before ne own h = record {
   order = h.order;

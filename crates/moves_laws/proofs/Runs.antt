@@ -1,9 +1,9 @@
 -- Every move keeps the invariant of both lanes, and so does every list of moves.
-use Rattle.std.proofs.Common.{◌≡◌, ◌≢◌, ℕ, ◌+◌, ◌<◌, ◌≤◌, Bool, true, false, List, [], ◌∷◌, length, Option, Some, None, slice_get, refl, arith}
+use Rattle.std.proofs.Common.{◌≡◌, ◌≢◌, ℕ, Bool, true, false, List, [], ◌∷◌, length, Option, Some, None, slice_get, refl, arith}
 use Rattle.omci_types.specs.declared.Priority.{Priority}
 use Rattle.omci_types.specs.declared.Priority.TheVariants.{Low, High}
-use Rattle.history_spec.specs.History.{Noted, Once, Answered}
-use Rattle.moves_spec.specs.Channel.{Transaction, LinkPacket, RequestOf, ReplyTo, Unasked, Channel, View, lane_view, with_lane_view, first_lane_state, first_shared, first_channel}
+use Rattle.history_spec.specs.History.{Once, Answered}
+use Rattle.moves_spec.specs.Channel.{LinkPacket, RequestOf, ReplyTo, Unasked, Channel, View, lane_view, with_lane_view, first_lane_state, first_shared, first_channel}
 use Rattle.moves_spec.specs.Moves.{Execution, Move, Draw, Send, GiveUp, RequestComes, ReplyComes, Notify, Write, UnitStarts, ManagerStarts, may_go, request_at, notice_if, reply_at, after_move, after_moves}
 use Rattle.moves_laws.proofs.Parts.{SoundLane, SoundChannel}
 use Rattle.moves_laws.proofs.Others.{lane_unit_start, lane_manager_start, Foreign, lane_beside, lane_noted}
@@ -19,7 +19,8 @@ low_not_high e = cc
 high_not_low : High ≢ Low
 high_not_low e = cc
 
-kept_by_step : (l : Priority) (w : Channel) (v : View) → SoundChannel w → LaneStep l (lane_view l w) v → SoundChannel (with_lane_view l v w)
+kept_by_step : (l : Priority) (w : Channel) (v : View) → SoundChannel w
+    → LaneStep l (lane_view l w) v → SoundChannel (with_lane_view l v w)
 kept_by_step Low w v h s = record {
   low = s.lane;
   high = s.other High w.high low_not_high h.high;
@@ -33,18 +34,22 @@ kept_by_step High w v h s = record {
   answered = s.answered h.answered;
 }
 
-kept_by_request : (w : Channel) (i : ℕ) (a : Option Execution) (p : Option LinkPacket) → slice_get w.shared.packets i ≡ p → SoundChannel w → SoundChannel (request_at i a w p)
+kept_by_request : (w : Channel) (i : ℕ) (a : Option Execution) (p : Option LinkPacket)
+    → slice_get w.shared.packets i ≡ p → SoundChannel w → SoundChannel (request_at i a w p)
 kept_by_request w i a None e h = h
 kept_by_request w i a (Some (RequestOf Low c)) e h = kept_by_step Low w _ h (step_request Low (lane_view Low w) i c a _ e refl h.low)
 kept_by_request w i a (Some (RequestOf High c)) e h = kept_by_step High w _ h (step_request High (lane_view High w) i c a _ e refl h.high)
 kept_by_request w i a (Some (ReplyTo l c r)) e h = h
 kept_by_request w i a (Some Unasked) e h = h
 
-kept_by_notice : (w : Channel) (j : ℕ) (b : Bool) → may_go w.low.floor_up j (length w.shared.packets) ≡ b → SoundChannel w → SoundChannel (notice_if j w b)
+kept_by_notice : (w : Channel) (j : ℕ) (b : Bool)
+    → may_go w.low.floor_up j (length w.shared.packets) ≡ b → SoundChannel w
+    → SoundChannel (notice_if j w b)
 kept_by_notice w j true t h = kept_by_step Low w _ h (step_up Low (lane_view Low w) j (may_floor _ j _ t) h.low)
 kept_by_notice w j false t h = h
 
-kept_by_reply : (w : Channel) (j : ℕ) (wanted : Bool) (p : Option LinkPacket) → slice_get w.shared.packets j ≡ p → SoundChannel w → SoundChannel (reply_at j wanted w p)
+kept_by_reply : (w : Channel) (j : ℕ) (wanted : Bool) (p : Option LinkPacket)
+    → slice_get w.shared.packets j ≡ p → SoundChannel w → SoundChannel (reply_at j wanted w p)
 kept_by_reply w j wanted None e h = h
 kept_by_reply w j wanted (Some (RequestOf l c)) e h = h
 kept_by_reply w j wanted (Some (ReplyTo Low c r)) e h = kept_by_step Low w _ h (step_reply Low (lane_view Low w) j c r wanted _ e refl h.low)
@@ -85,12 +90,14 @@ kept_by_move (ManagerStarts low high) w h = record {
   answered = h.answered;
 }
 
-pub kept_by_moves : (ms : List Move) (w : Channel) → SoundChannel w → SoundChannel (after_moves ms w)
+pub kept_by_moves : (ms : List Move) (w : Channel) → SoundChannel w
+    → SoundChannel (after_moves ms w)
 kept_by_moves [] w h = h
 kept_by_moves (m ∷ rest) w h = kept_by_moves rest (after_move m w) (kept_by_move m w h)
 
 -- at the start of both ends nothing was sent, drawn or carried out
-lane_at_first : (l : Priority) (place : ℕ) → SoundLane l (record { shared = first_shared; lane = first_lane_state place })
+lane_at_first : (l : Priority) (place : ℕ)
+    → SoundLane l (record { shared = first_shared; lane = first_lane_state place })
 lane_at_first l place = record {
   order = record {
     sorted = λ i j c d e f le. absurd (cc);
@@ -132,11 +139,14 @@ lane_at_first l place = record {
 pub channel_at_first : (low high : ℕ) → SoundChannel (first_channel low high)
 channel_at_first low high = record { low = lane_at_first Low low; high = lane_at_first High high; once = tt; answered = tt }
 
-pub channel_after : (low high : ℕ) (ms : List Move) → SoundChannel (after_moves ms (first_channel low high))
+pub channel_after : (low high : ℕ) (ms : List Move)
+    → SoundChannel (after_moves ms (first_channel low high))
 channel_after low high ms = kept_by_moves ms (first_channel low high) (channel_at_first low high)
 
-pub runs_once : (low high : ℕ) (ms : List Move) → Once (after_moves ms (first_channel low high)).shared.history
+pub runs_once : (low high : ℕ) (ms : List Move)
+    → Once (after_moves ms (first_channel low high)).shared.history
 runs_once low high ms = (channel_after low high ms).once
 
-pub runs_answered : (low high : ℕ) (ms : List Move) → Answered (after_moves ms (first_channel low high)).shared.history
+pub runs_answered : (low high : ℕ) (ms : List Move)
+    → Answered (after_moves ms (first_channel low high)).shared.history
 runs_answered low high ms = (channel_after low high ms).answered

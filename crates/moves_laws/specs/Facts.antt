@@ -1,7 +1,7 @@
 -- What may happen next in a channel that moves have led to.
-use Rattle.std.specs.Prelude.{ℕ, ◌≡◌, ◌≢◌, Bool, true, List, length, Option, Some, slice_get}
+use Rattle.std.specs.Prelude.{ℕ, ◌≡◌, ◌≢◌, true, List, Some, slice_get}
 use Rattle.omci_types.specs.declared.Priority.{Priority}
-use Rattle.moves_spec.specs.Channel.{Transaction, place_number, LinkPacket, RequestOf, ReplyTo, KeptReply, Outstanding, Channel, View, lane_view, first_channel}
+use Rattle.moves_spec.specs.Channel.{Transaction, place_number, RequestOf, ReplyTo, KeptReply, Outstanding, Channel, lane_view, first_channel}
 use Rattle.moves_spec.specs.Moves.{Move, may_go_down, may_go_up, after_moves}
 
 -- moves lead there from the start of both ends
@@ -19,15 +19,18 @@ pub record MayGoDown (l : Priority) (w : Channel) (at : ℕ) (c : Transaction) :
 -- and the unit doesn't keep its number, so that it is carried out where it is answered
 pub record MayBeCarriedOut (l : Priority) (w : Channel) (at : ℕ) (c : Transaction) : Type 0 where
   pub comes : MayGoDown l w at c
-  pub differs : (k : KeptReply) → (lane_view l w).lane.kept ≡ Some k → place_number k.transaction.place ≢ place_number c.place
+  pub differs : (k : KeptReply) → (lane_view l w).lane.kept ≡ Some k
+      → place_number k.transaction.place ≢ place_number c.place
 
 -- a reply to the command stands there, and may come to the manager
-pub record MayGoUp (l : Priority) (w : Channel) (at : ℕ) (c : Transaction) (bytes : List ℕ) : Type 0 where
+pub record MayGoUp (l : Priority) (w : Channel) (at : ℕ) (c : Transaction)
+    (bytes : List ℕ) : Type 0 where
   pub reply : slice_get w.shared.packets at ≡ Some (ReplyTo l c bytes)
   pub may : may_go_up at (lane_view l w) ≡ true
 
 -- and it has the number of the outstanding command, so that the manager may take it
-pub record MayBeTaken (l : Priority) (w : Channel) (at : ℕ) (c : Transaction) (bytes : List ℕ) (o : Outstanding) : Type 0 where
+pub record MayBeTaken (l : Priority) (w : Channel) (at : ℕ) (c : Transaction) (bytes : List ℕ)
+    (o : Outstanding) : Type 0 where
   pub comes : MayGoUp l w at c bytes
   pub waits : (lane_view l w).lane.outstanding ≡ Some o
   pub same : place_number c.place ≡ place_number o.transaction.place

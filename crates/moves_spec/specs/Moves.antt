@@ -78,7 +78,7 @@ abbrev pub send_if : Priority → View → Option Outstanding → View
 send_if l v None = v
 send_if l v (Some o) =
     with_sent (length o.transaction.packets) o
-      (with_requests l o.transaction o.transaction.packets v)
+    (with_requests l o.transaction o.transaction.packets v)
 
 -- the outstanding command ends, and the next one has the next place
 abbrev pub with_end : Bool → View → View
@@ -206,7 +206,7 @@ may_go_up at v = may_go v.lane.floor_up at (length v.shared.packets)
 abbrev pub with_request : Priority → Transaction → ℕ → Option Execution → Channel → Channel
 with_request l t at execution w =
     with_lane_view l
-      (request_if l t at execution (lane_view l w) (may_go_down at (lane_view l w))) w
+    (request_if l t at execution (lane_view l w) (may_go_down at (lane_view l w))) w
 
 abbrev pub request_at : ℕ → Option Execution → Channel → Option LinkPacket → Channel
 request_at at execution w None = w
@@ -217,7 +217,7 @@ request_at at execution w (Some Unasked) = w
 abbrev pub with_reply : Priority → Transaction → List ℕ → ℕ → Bool → Channel → Channel
 with_reply l t bytes at wanted w =
     with_lane_view l
-      (reply_if t bytes at wanted (lane_view l w) (may_go_up at (lane_view l w))) w
+    (reply_if t bytes at wanted (lane_view l w) (may_go_up at (lane_view l w))) w
 
 -- notices go in the low lane
 abbrev pub notice_if : ℕ → Channel → Bool → Channel
