@@ -14,7 +14,8 @@ apart a b lt le e = omega arith
 -- a request that may come and is of a command that ended has another number than the lane's
 pub past_request : (place since i count : ℕ) (c : Transaction) → since ≤ count → count ≤ i + WINDOW
     → Past place since i c 0 → place_number c.place ≢ place_number place
-past_request place since i count c begun within p = apart c.place place p.ended (omega (arith, p.far))
+past_request place since i count c begun within p = apart c.place place p.ended
+    (omega (arith, p.far))
 
 -- so has a reply
 pub past_reply : (place since j count : ℕ) (c : Transaction) → since ≤ count → count ≤ j + WINDOW

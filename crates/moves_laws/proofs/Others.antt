@@ -155,9 +155,11 @@ pub record Foreign (l : Priority) (x : LinkPacket) : Type 0 where
 pub lane_beside : (l : Priority) (v : View) (x : LinkPacket) → Foreign l x → SoundLane l v
     → SoundLane l (with_packet x v)
 lane_beside l v x n h =
-    let asks : (i : ℕ) (c : Transaction) → Asks l (v.shared.packets ++ x ∷ []) i c → Asks l v.shared.packets i c =
+    let asks : (i : ℕ) (c : Transaction) → Asks l (v.shared.packets ++ x ∷ []) i c
+    → Asks l v.shared.packets i c =
     λ i c e. ⊎_elim (λ f. f) (λ g. absurd (n.no_request c g.1)) (got v.shared.packets x i _ e) in
-    let replies : (j : ℕ) (c : Transaction) (r : List ℕ) → Replies l (v.shared.packets ++ x ∷ []) j c r → Replies l v.shared.packets j c r =
+    let replies : (j : ℕ) (c : Transaction) (r : List ℕ) → Replies l (v.shared.packets ++ x ∷ []) j c r
+    → Replies l v.shared.packets j c r =
     λ j c r e. ⊎_elim (λ f. f) (λ g. absurd (n.no_reply c r g.1)) (got v.shared.packets x j _ e) in
     record {
       order = record {
@@ -183,7 +185,8 @@ lane_beside l v x n h =
         replies = λ j c r e le. h.places.replies j c r (replies j c r e) le;
       };
       replies = record {
-        below = λ j i d c r e le f lf. h.replies.below j i d c r (replies j d r e) le (asks i c f) lf;
+        below = λ j i d c r e le f lf. h.replies.below j i d c r (replies j d r e) le
+            (asks i c f) lf;
         newest = λ j d r o e le f. h.replies.newest j d r o (replies j d r e) le f;
         fresh = λ j d r e le. h.replies.fresh j d r (replies j d r e) le;
       };
@@ -201,11 +204,16 @@ pub lane_beside_all : (l m : Priority) (c : Transaction) (packets : List (List �
     → Foreign l (RequestOf m c) → SoundLane l v
     → SoundLane l (with_requests m c packets v)
 lane_beside_all l m c [] v n h = h
-lane_beside_all l m c (p ∷ rest) v n h = lane_beside_all l m c rest (with_packet (RequestOf m c) v) n (lane_beside l v (RequestOf m c) n h)
+lane_beside_all l m c (p ∷ rest) v n h = lane_beside_all l m c rest
+    (with_packet (RequestOf m c) v) n (lane_beside l v (RequestOf m c) n h)
 
 -- a command of the other lane is drawn
 abbrev pub more_drawn : Priority → View → View
 more_drawn m v = record v { shared = record v.shared { draws = v.shared.draws ++ m ∷ [] } }
+
+more_draws : (m : Priority) (v : View)
+    → length (v.shared.draws ++ m ∷ []) ≡ length v.shared.draws + 1
+more_draws m v = length-append v.shared.draws (m ∷ [])
 
 owner_before : (l m : Priority) (draws : List Priority) (id : ℕ) → m ≢ l
     → Owner l (draws ++ m ∷ []) id → Owner l draws id
@@ -223,17 +231,17 @@ lane_more_drawn l m v ne h = record {
   held = record {
     below = h.held.below;
     newest = h.held.newest;
-    fresh = λ k e. omega (arith, h.held.fresh k e, length-append v.shared.draws (m ∷ []));
+    fresh = λ k e. omega (arith, h.held.fresh k e, more_draws m v);
     made = h.held.made;
     carried = λ id was own. h.held.carried id was (owner_before l m v.shared.draws id ne own);
     past = h.held.past;
-    known = λ life id was. omega (arith, h.held.known life id was, length-append v.shared.draws (m ∷ []));
+    known = λ life id was. omega (arith, h.held.known life id was, more_draws m v);
   };
   places = h.places;
   replies = record {
     below = h.replies.below;
     newest = h.replies.newest;
-    fresh = λ j d r e le. omega (arith, h.replies.fresh j d r e le, length-append v.shared.draws (m ∷ []));
+    fresh = λ j d r e le. omega (arith, h.replies.fresh j d r e le, more_draws m v);
   };
   proved = h.proved;
 }
@@ -244,20 +252,50 @@ pub lane_took : (l : Priority) (v : View) (id : ℕ) (r : List ℕ) → SoundLan
     → SoundLane l (with_written (TookReply id r) v)
 lane_took l v id r h = record {
   order = h.order;
-  held = record { below = h.held.below; newest = h.held.newest; fresh = h.held.fresh; made = h.held.made; carried = h.held.carried; past = h.held.past; known = h.held.known };
+  held = record {
+    below = h.held.below;
+    newest = h.held.newest;
+    fresh = h.held.fresh;
+    made = h.held.made;
+    carried = h.held.carried;
+    past = h.held.past;
+    known = h.held.known;
+  };
   places = h.places;
   replies = h.replies;
-  proved = record { unproven = h.proved.unproven; kept = h.proved.kept; quiet = h.proved.quiet; answered = h.proved.answered; reply = h.proved.reply; kept_reply = h.proved.kept_reply };
+  proved = record {
+    unproven = h.proved.unproven;
+    kept = h.proved.kept;
+    quiet = h.proved.quiet;
+    answered = h.proved.answered;
+    reply = h.proved.reply;
+    kept_reply = h.proved.kept_reply;
+  };
 }
 
 pub lane_noted : (l : Priority) (v : View) (n : Note) → SoundLane l v
     → SoundLane l (with_written (Noted n) v)
 lane_noted l v n h = record {
   order = h.order;
-  held = record { below = h.held.below; newest = h.held.newest; fresh = h.held.fresh; made = h.held.made; carried = h.held.carried; past = h.held.past; known = h.held.known };
+  held = record {
+    below = h.held.below;
+    newest = h.held.newest;
+    fresh = h.held.fresh;
+    made = h.held.made;
+    carried = h.held.carried;
+    past = h.held.past;
+    known = h.held.known;
+  };
   places = h.places;
   replies = h.replies;
-  proved = record { unproven = h.proved.unproven; kept = h.proved.kept; quiet = h.proved.quiet; answered = h.proved.answered; reply = h.proved.reply; kept_reply = h.proved.kept_reply };
+  proved = record {
+    unproven = h.proved.unproven;
+    kept = h.proved.kept;
+    quiet = h.proved.quiet;
+    answered = h.proved.answered;
+    reply = h.proved.reply;
+    kept_reply = h.proved.kept_reply;
+  };
 }
 
 -- a command of the other lane is carried out
@@ -276,9 +314,12 @@ lane_carried_beside l m v c r before ne own h = record {
     newest = h.held.newest;
     fresh = h.held.fresh;
     made = λ k e. inr (h.held.made k e);
-    carried = λ id was mine. ⊎_elim (λ e. absurd (two_owners l m v.shared.draws c.id id ne own mine e.1)) (λ old. h.held.carried id old mine) was;
+    carried = λ id was mine. ⊎_elim
+        (λ e. absurd (two_owners l m v.shared.draws c.id id ne own mine e.1))
+        (λ old. h.held.carried id old mine) was;
     past = λ life id was. ⊎_elim (λ e. omega arith) (λ old. h.held.past life id old) was;
-    known = λ life id was. ⊎_elim (λ e. omega (arith, slice_get_within v.shared.draws c.id m own)) (λ old. h.held.known life id old) was;
+    known = λ life id was. ⊎_elim (λ e. omega (arith, slice_get_within v.shared.draws c.id m own))
+        (λ old. h.held.known life id old) was;
   };
   places = h.places;
   replies = h.replies;
@@ -287,7 +328,13 @@ lane_carried_beside l m v c r before ne own h = record {
     kept = h.proved.kept;
     quiet = h.proved.quiet;
     answered = h.proved.answered;
-    reply = λ o j q w b e le. inr (two_owners l m v.shared.draws c.id o.transaction.id ne own (h.order.waiting_owner o w), h.proved.reply o j q w b e le);
-    kept_reply = λ o k w b e f. inr (two_owners l m v.shared.draws c.id o.transaction.id ne own (h.order.waiting_owner o w), h.proved.kept_reply o k w b e f);
+    reply = λ o j q w b e le. inr (
+      two_owners l m v.shared.draws c.id o.transaction.id ne own (h.order.waiting_owner o w),
+      h.proved.reply o j q w b e le,
+    );
+    kept_reply = λ o k w b e f. inr (
+      two_owners l m v.shared.draws c.id o.transaction.id ne own (h.order.waiting_owner o w),
+      h.proved.kept_reply o k w b e f,
+    );
   };
 }

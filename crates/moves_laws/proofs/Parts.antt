@@ -61,7 +61,8 @@ pub record Own (waits : Option Outstanding) (since i : ℕ) (c : Transaction)
   pub from : since + more ≤ i
 
 abbrev pub Placed : Option Outstanding → ℕ → ℕ → ℕ → Transaction → ℕ → ℕ → Type 0
-Placed waits place since i c more own_more = Past place since i c more ⊎ Own waits since i c own_more
+Placed waits place since i c more own_more =
+    Past place since i c more ⊎ Own waits since i c own_more
 
 -- where a lane's packets may stand: a reply is as far back as its request may be when it comes
 pub record PlacesPart (l : Priority) (packets : List LinkPacket) (down up : ℕ)
@@ -86,12 +87,14 @@ pub record RepliesPart (l : Priority) (packets : List LinkPacket) (draws : List 
 
 -- the kept number isn't the lane's, or it is that of the outstanding command
 abbrev pub Apart : Option Outstanding → ℕ → KeptReply → Type 0
-Apart waits place k = (place_number k.transaction.place ≢ place_number place) ⊎ ((o : Outstanding) × (waits ≡ Some o) × (k.transaction ≡ o.transaction))
+Apart waits place k = (place_number k.transaction.place ≢ place_number place) ⊎
+    ((o : Outstanding) × (waits ≡ Some o) × (k.transaction ≡ o.transaction))
 
 -- the request is the outstanding command's, or it is answered by what is kept
 abbrev pub Harmless : Option Outstanding → Option KeptReply → Transaction → Type 0
 Harmless waits keeps c = ((o : Outstanding) × (waits ≡ Some o) × (c ≡ o.transaction))
-    ⊎ ((k : KeptReply) × (keeps ≡ Some k) × (place_number k.transaction.place ≡ place_number c.place))
+    ⊎ ((k : KeptReply) × (keeps ≡ Some k) ×
+    (place_number k.transaction.place ≡ place_number c.place))
 
 -- where the lane is proved, what the unit keeps doesn't answer a new command
 pub record ProvedPart (l : Priority) (packets : List LinkPacket) (history : List Entry)
@@ -115,16 +118,20 @@ abbrev pub OrderIn : Priority → View → Type 0
 OrderIn l v = OrderPart l v.shared.packets v.shared.draws v.lane.outstanding
 
 abbrev pub HeldIn : Priority → View → Type 0
-HeldIn l v = HeldPart l v.shared.packets v.shared.draws v.shared.life v.shared.history v.lane.floor_down v.lane.kept v.lane.outstanding
+HeldIn l v =
+    HeldPart l v.shared.packets v.shared.draws v.shared.life v.shared.history v.lane.floor_down v.lane.kept v.lane.outstanding
 
 abbrev pub PlacesIn : Priority → View → Type 0
-PlacesIn l v = PlacesPart l v.shared.packets v.lane.floor_down v.lane.floor_up v.lane.outstanding v.lane.place v.lane.since
+PlacesIn l v =
+    PlacesPart l v.shared.packets v.lane.floor_down v.lane.floor_up v.lane.outstanding v.lane.place v.lane.since
 
 abbrev pub RepliesIn : Priority → View → Type 0
-RepliesIn l v = RepliesPart l v.shared.packets v.shared.draws v.lane.floor_down v.lane.floor_up v.lane.outstanding
+RepliesIn l v =
+    RepliesPart l v.shared.packets v.shared.draws v.lane.floor_down v.lane.floor_up v.lane.outstanding
 
 abbrev pub ProvedIn : Priority → View → Type 0
-ProvedIn l v = ProvedPart l v.shared.packets v.shared.history v.lane.floor_down v.lane.floor_up v.lane.kept v.lane.proved v.lane.place v.lane.outstanding
+ProvedIn l v =
+    ProvedPart l v.shared.packets v.shared.history v.lane.floor_down v.lane.floor_up v.lane.kept v.lane.proved v.lane.place v.lane.outstanding
 
 -- the parts together
 pub record SoundLane (l : Priority) (v : View) : Type 0 where

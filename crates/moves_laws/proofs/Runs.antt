@@ -37,32 +37,40 @@ kept_by_step High w v h s = record {
 kept_by_request : (w : Channel) (i : ℕ) (a : Option Execution) (p : Option LinkPacket)
     → slice_get w.shared.packets i ≡ p → SoundChannel w → SoundChannel (request_at i a w p)
 kept_by_request w i a None e h = h
-kept_by_request w i a (Some (RequestOf Low c)) e h = kept_by_step Low w _ h (step_request Low (lane_view Low w) i c a _ e refl h.low)
-kept_by_request w i a (Some (RequestOf High c)) e h = kept_by_step High w _ h (step_request High (lane_view High w) i c a _ e refl h.high)
+kept_by_request w i a (Some (RequestOf Low c)) e h = kept_by_step Low w _ h
+    (step_request Low (lane_view Low w) i c a _ e refl h.low)
+kept_by_request w i a (Some (RequestOf High c)) e h = kept_by_step High w _ h
+    (step_request High (lane_view High w) i c a _ e refl h.high)
 kept_by_request w i a (Some (ReplyTo l c r)) e h = h
 kept_by_request w i a (Some Unasked) e h = h
 
 kept_by_notice : (w : Channel) (j : ℕ) (b : Bool)
     → may_go w.low.floor_up j (length w.shared.packets) ≡ b → SoundChannel w
     → SoundChannel (notice_if j w b)
-kept_by_notice w j true t h = kept_by_step Low w _ h (step_up Low (lane_view Low w) j (may_floor _ j _ t) h.low)
+kept_by_notice w j true t h = kept_by_step Low w _ h
+    (step_up Low (lane_view Low w) j (may_floor _ j _ t) h.low)
 kept_by_notice w j false t h = h
 
 kept_by_reply : (w : Channel) (j : ℕ) (wanted : Bool) (p : Option LinkPacket)
     → slice_get w.shared.packets j ≡ p → SoundChannel w → SoundChannel (reply_at j wanted w p)
 kept_by_reply w j wanted None e h = h
 kept_by_reply w j wanted (Some (RequestOf l c)) e h = h
-kept_by_reply w j wanted (Some (ReplyTo Low c r)) e h = kept_by_step Low w _ h (step_reply Low (lane_view Low w) j c r wanted _ e refl h.low)
-kept_by_reply w j wanted (Some (ReplyTo High c r)) e h = kept_by_step High w _ h (step_reply High (lane_view High w) j c r wanted _ e refl h.high)
+kept_by_reply w j wanted (Some (ReplyTo Low c r)) e h = kept_by_step Low w _ h
+    (step_reply Low (lane_view Low w) j c r wanted _ e refl h.low)
+kept_by_reply w j wanted (Some (ReplyTo High c r)) e h = kept_by_step High w _ h
+    (step_reply High (lane_view High w) j c r wanted _ e refl h.high)
 kept_by_reply w j wanted (Some Unasked) e h = kept_by_notice w j _ refl h
 
 foreign_notice : (l : Priority) → Foreign l Unasked
 foreign_notice l = record { no_request = λ c e. absurd (cc); no_reply = λ c r e. absurd (cc) }
 
 pub kept_by_move : (m : Move) (w : Channel) → SoundChannel w → SoundChannel (after_move m w)
-kept_by_move (Draw l probe packets) w h = kept_by_step l w _ h (step_draw l probe packets (lane_view l w) _ _ refl refl (lane_of l w h))
-kept_by_move (Send l) w h = kept_by_step l w _ h (step_send l (lane_view l w) _ refl (lane_of l w h))
-kept_by_move (GiveUp l) w h = kept_by_step l w _ h (step_give_up l (lane_view l w) _ refl (lane_of l w h))
+kept_by_move (Draw l probe packets) w h = kept_by_step l w _ h
+    (step_draw l probe packets (lane_view l w) _ _ refl refl (lane_of l w h))
+kept_by_move (Send l) w h = kept_by_step l w _ h
+    (step_send l (lane_view l w) _ refl (lane_of l w h))
+kept_by_move (GiveUp l) w h = kept_by_step l w _ h
+    (step_give_up l (lane_view l w) _ refl (lane_of l w h))
 kept_by_move (RequestComes i a) w h = kept_by_request w i a _ refl h
 kept_by_move (ReplyComes j wanted) w h = kept_by_reply w j wanted _ refl h
 kept_by_move Notify w h = record {
@@ -137,7 +145,12 @@ lane_at_first l place = record {
 }
 
 pub channel_at_first : (low high : ℕ) → SoundChannel (first_channel low high)
-channel_at_first low high = record { low = lane_at_first Low low; high = lane_at_first High high; once = tt; answered = tt }
+channel_at_first low high = record {
+  low = lane_at_first Low low;
+  high = lane_at_first High high;
+  once = tt;
+  answered = tt;
+}
 
 pub channel_after : (low high : ℕ) (ms : List Move)
     → SoundChannel (after_moves ms (first_channel low high))

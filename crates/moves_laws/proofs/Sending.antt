@@ -44,8 +44,10 @@ places_sent l packets down up waits place since o w h = record {
   shape = h.shape;
   cost = λ p e. grind (arith, length-append, h.cost);
   requests = λ i c e le. ⊎_elim (λ f. h.requests i c f le)
-      (λ g. inr (record { outstanding = o; is = w; same = cc; from = grind (arith, h.begun) })) (got packets _ i _ e);
-  replies = λ j c r e le. ⊎_elim (λ f. h.replies j c r f le) (λ g. absurd (cc)) (got packets _ j _ e);
+      (λ g. inr (record { outstanding = o; is = w; same = cc; from = grind (arith, h.begun) }))
+      (got packets _ i _ e);
+  replies = λ j c r e le. ⊎_elim (λ f. h.replies j c r f le) (λ g. absurd (cc))
+      (got packets _ j _ e);
 }
 
 replies_sent : (l : Priority) (packets : List LinkPacket) (draws : List Priority) (down up : ℕ)
@@ -67,7 +69,8 @@ proved_sent : (l : Priority) (packets : List LinkPacket) (history : List Entry) 
 proved_sent l packets history down up keeps is_proved place waits o w h = record {
   unproven = h.unproven;
   kept = h.kept;
-  quiet = λ i c pr e le. ⊎_elim (λ f. h.quiet i c pr f le) (λ g. inl (o, w, (cc))) (got packets _ i _ e);
+  quiet = λ i c pr e le. ⊎_elim (λ f. h.quiet i c pr f le) (λ g. inl (o, w, (cc)))
+      (got packets _ i _ e);
   answered = λ p j r e f le. grind (arith, got, h.answered);
   reply = λ p j r e b f le. grind (arith, got, h.reply);
   kept_reply = h.kept_reply;
@@ -89,13 +92,18 @@ requests_length : (l : Priority) (c : Transaction) (packets : List (List ℕ)) (
     → length (with_requests l c packets v).shared.packets ≡ length v.shared.packets + length packets
 requests_length l c [] v = omega arith
 requests_length l c (p ∷ rest) v =
-    omega (arith, requests_length l c rest (with_packet (RequestOf l c) v), length-append v.shared.packets (RequestOf l c ∷ []))
+    omega (
+      arith,
+      requests_length l c rest (with_packet (RequestOf l c) v),
+      length-append v.shared.packets (RequestOf l c ∷ []),
+    )
 
 lane_sent_all : (l : Priority) (packets : List (List ℕ)) (v : View) (o : Outstanding)
     → v.lane.outstanding ≡ Some o → SoundLane l v
     → SoundLane l (with_requests l o.transaction packets v)
 lane_sent_all l [] v o w h = h
-lane_sent_all l (p ∷ rest) v o w h = lane_sent_all l rest (with_packet (RequestOf l o.transaction) v) o w (lane_sent l v o w h)
+lane_sent_all l (p ∷ rest) v o w h = lane_sent_all l rest
+    (with_packet (RequestOf l o.transaction) v) o w (lane_sent l v o w h)
 
 -- they change nothing but the packets
 lane_stays : (l : Priority) (c : Transaction) (packets : List (List ℕ)) (v : View)
@@ -111,18 +119,26 @@ placed_counted : (waits : Option Outstanding) (o : Outstanding) → waits ≡ So
     → Placed (Some (record o { sent = o.sent + count })) place since i c n m
 placed_counted waits o w count place since i c n m (inl p) = inl p
 placed_counted waits o w count place since i c n m (inr p) =
-    inr (record { outstanding = record o { sent = o.sent + count }; is = refl; same = (let e = p.is in let f = p.same in cc); from = p.from })
+    inr (record {
+      outstanding = record o { sent = o.sent + count };
+      is = refl;
+      same =
+          (let e = p.is in let f = p.same in cc);
+      from = p.from;
+    })
 
 apart_counted : (waits : Option Outstanding) (o : Outstanding) → waits ≡ Some o
     → (count place : ℕ) (k : KeptReply)
     → Apart waits place k → Apart (Some (record o { sent = o.sent + count })) place k
 apart_counted waits o w count place k (inl p) = inl p
-apart_counted waits o w count place k (inr p) = inr (record o { sent = o.sent + count }, refl, (let e = p.1 in let f = p.2 in cc))
+apart_counted waits o w count place k (inr p) = inr
+    (record o { sent = o.sent + count }, refl, (let e = p.1 in let f = p.2 in cc))
 
 harmless_counted : (waits : Option Outstanding) (o : Outstanding) → waits ≡ Some o
     → (count : ℕ) (keeps : Option KeptReply) (c : Transaction)
     → Harmless waits keeps c → Harmless (Some (record o { sent = o.sent + count })) keeps c
-harmless_counted waits o w count keeps c (inl p) = inl (record o { sent = o.sent + count }, refl, (let e = p.1 in let f = p.2 in cc))
+harmless_counted waits o w count keeps c (inl p) = inl
+    (record o { sent = o.sent + count }, refl, (let e = p.1 in let f = p.2 in cc))
 harmless_counted waits o w count keeps c (inr p) = inr p
 
 lane_counted : (l : Priority) (v : View) (o : Outstanding) (count : ℕ) → v.lane.outstanding ≡ Some o
@@ -148,8 +164,10 @@ lane_counted l v o count w more h = record {
     begun = h.places.begun;
     shape = λ p e. grind (arith, h.places.shape);
     cost = λ p e. grind (arith, h.places.cost);
-    requests = λ i c e le. placed_counted v.lane.outstanding o w count _ _ i c 0 0 (h.places.requests i c e le);
-    replies = λ j c r e le. placed_counted v.lane.outstanding o w count _ _ j c WINDOW 1 (h.places.replies j c r e le);
+    requests = λ i c e le. placed_counted v.lane.outstanding o w count _ _ i c 0 0
+        (h.places.requests i c e le);
+    replies = λ j c r e le. placed_counted v.lane.outstanding o w count _ _ j c WINDOW 1
+        (h.places.replies j c r e le);
   };
   replies = record {
     below = h.replies.below;
@@ -159,7 +177,8 @@ lane_counted l v o count w more h = record {
   proved = record {
     unproven = λ p e f. grind (arith, h.proved.unproven);
     kept = λ k e f. apart_counted v.lane.outstanding o w count _ k (h.proved.kept k e f);
-    quiet = λ i c pr e le. harmless_counted v.lane.outstanding o w count _ c (h.proved.quiet i c pr e le);
+    quiet = λ i c pr e le. harmless_counted v.lane.outstanding o w count _ c
+        (h.proved.quiet i c pr e le);
     answered = λ p j r e f le. grind (arith, h.proved.answered);
     reply = λ p j r e b f le. grind (arith, h.proved.reply);
     kept_reply = λ p k e b f g. grind (arith, h.proved.kept_reply);
@@ -170,10 +189,12 @@ lane_counted l v o count w more h = record {
 pub lane_after_send : (l : Priority) (v : View) (o : Outstanding) → v.lane.outstanding ≡ Some o
     → SoundLane l v
     → SoundLane l
-    (with_sent (length o.transaction.packets) o (with_requests l o.transaction o.transaction.packets v))
+    (with_sent (length o.transaction.packets) o
+    (with_requests l o.transaction o.transaction.packets v))
 lane_after_send l v o w h =
     let same = lane_stays l o.transaction o.transaction.packets v in
     let more = requests_length l o.transaction o.transaction.packets v in
     let since = ap (λ x. x.since) same in
-    lane_counted l (with_requests l o.transaction o.transaction.packets v) o (length o.transaction.packets) (ap (λ x. x.outstanding) same ∙ w)
+    lane_counted l (with_requests l o.transaction o.transaction.packets v) o
+    (length o.transaction.packets) (ap (λ x. x.outstanding) same ∙ w)
     (omega (arith, more, since, h.places.cost o w)) (lane_sent_all l o.transaction.packets v o w h)

@@ -80,15 +80,18 @@ requests_beside : (l : Priority) (c : Transaction) (packets : List (List ℕ)) (
     → with_requests l c packets (record { shared = v.shared; lane = lane })
     ≡ record { shared = (with_requests l c packets v).shared; lane = lane }
 requests_beside l c [] v lane = refl
-requests_beside l c (p ∷ rest) v lane = requests_beside l c rest (with_packet (RequestOf l c) v) lane
+requests_beside l c (p ∷ rest) v lane = requests_beside l c rest
+    (with_packet (RequestOf l c) v) lane
 
 pub step_send : (l : Priority) (v : View) (o : Option Outstanding) → v.lane.outstanding ≡ o
     → SoundLane l v → LaneStep l v (send_if l v o)
 step_send l v None w h = step_none l v h
 step_send l v (Some o) w h = record {
   lane = lane_after_send l v o w h;
-  other = λ m lane ne k. subst (λ x. SoundLane m x) (requests_beside l o.transaction o.transaction.packets v lane)
-      (lane_beside_all m l o.transaction o.transaction.packets _ (foreign_request l m o.transaction ne) k);
+  other = λ m lane ne k. subst (λ x. SoundLane m x)
+      (requests_beside l o.transaction o.transaction.packets v lane)
+      (lane_beside_all m l o.transaction o.transaction.packets _
+      (foreign_request l m o.transaction ne) k);
   once = subst Once (sym (requests_history l o.transaction o.transaction.packets v));
   answered = subst Answered (sym (requests_history l o.transaction o.transaction.packets v));
 }
@@ -96,7 +99,8 @@ step_send l v (Some o) w h = record {
 step_end : (l : Priority) (v : View) (o : Outstanding) (b : Bool) → v.lane.outstanding ≡ Some o
     → nat_le 2 o.sent ≡ b → SoundLane l v → LaneStep l v (end_if v b)
 step_end l v o false w t h = step_none l v h
-step_end l v o true w t h = step_within l v _ refl (lane_given_up l v o w (grind (arith, nat_tests)) h)
+step_end l v o true w t h = step_within l v _ refl
+    (lane_given_up l v o w (grind (arith, nat_tests)) h)
 
 pub step_give_up : (l : Priority) (v : View) (o : Option Outstanding) → v.lane.outstanding ≡ o
     → SoundLane l v → LaneStep l v (give_up_if v o)
@@ -109,7 +113,8 @@ step_carried : (l : Priority) (v : View) (i : ℕ) (c : Transaction) (a : Execut
     → Unkept v.lane.kept c → SoundLane l v → LaneStep l v (with_execution c a v)
 step_carried l v i c a s u h = record {
   lane = lane_carried l v i c a s u h;
-  other = λ m lane ne k. lane_carried_beside m l _ c a.reply a.before ne (h.order.owner i c s.request) k;
+  other = λ m lane ne k. lane_carried_beside m l _ c a.reply a.before ne
+      (h.order.owner i c s.request) k;
   once = λ x. (carry_once l v i c s u h, x);
   answered = λ x. x;
 }
@@ -127,9 +132,15 @@ step_carry : (l : Priority) (v : View) (i : ℕ) (c : Transaction) (a : Executio
     → Unkept v.lane.kept c → SoundLane l v → LaneStep l v (execute l c a v)
 step_carry l v i c a s u h =
     let first = step_carried l v i c a s u h in
-    let comes : Comes l (with_execution c a v) i c = record { request = s.request; at_floor = s.at_floor; within = s.within } in
+    let comes : Comes l (with_execution c a v) i c =
+    record { request = s.request; at_floor = s.at_floor; within = s.within } in
     let keeps : KeepsReply (with_execution c a v).lane.kept c a.reply =
-    record { kept = record { transaction = c; reply = a.reply }; is = refl; same = refl; reply = refl } in
+    record {
+      kept = record { transaction = c; reply = a.reply };
+      is = refl;
+      same = refl;
+      reply = refl;
+    } in
     step_then first (step_replied l (with_execution c a v) i c a.reply comes keeps first.lane)
 
 step_kept : (l : Priority) (v : View) (i : ℕ) (c : Transaction) (a : Execution) (k : KeptReply)
@@ -137,9 +148,14 @@ step_kept : (l : Priority) (v : View) (i : ℕ) (c : Transaction) (a : Execution
     → nat_eq (place_number k.transaction.place) (place_number c.place) ≡ b → SoundLane l v
     → LaneStep l v (execute_unless l c a v k b)
 step_kept l v i c a k true s e t h =
-    step_replied l v i c k.reply s (record { kept = k; is = e; same = grind (arith, nat_tests); reply = refl }) h
+    step_replied l v i c k.reply s
+    (record { kept = k; is = e; same = grind (arith, nat_tests); reply = refl }) h
 step_kept l v i c a k false s e t h = step_carry l v i c a s
-    (record { differs = λ p f. (let g : k ≡ p = cc in subst (λ x. place_number x.transaction.place ≢ place_number c.place) g (grind (arith, nat_tests))) }) h
+    (record {
+      differs = λ p f. (let g : k ≡ p = cc in subst
+          (λ x. place_number x.transaction.place ≢ place_number c.place) g
+          (grind (arith, nat_tests)));
+    }) h
 
 step_serve : (l : Priority) (v : View) (i : ℕ) (c : Transaction) (a : Execution)
     (k : Option KeptReply) → Comes l v i c → v.lane.kept ≡ k → SoundLane l v
@@ -165,7 +181,8 @@ step_request l v i c a false q t h = step_none l v h
 step_request l v i c None true q t h = step_down l v i (may_floor _ i _ t) h
 step_request l v i c (Some a) true q t h =
     let first = step_down l v i (may_floor _ i _ t) h in
-    let comes : Comes l (with_floor_down i v) i c = record { request = q; at_floor = refl; within = may_within v.lane.floor_down i _ t } in
+    let comes : Comes l (with_floor_down i v) i c =
+    record { request = q; at_floor = refl; within = may_within v.lane.floor_down i _ t } in
     step_then first (step_serve l (with_floor_down i v) i c a v.lane.kept comes refl first.lane)
 
 -- the manager gets a reply
@@ -188,7 +205,14 @@ step_same : (l : Priority) (v : View) (j : ℕ) (c : Transaction) (r : List ℕ)
     → LaneStep l v (take_if_same r v o b)
 step_same l v j c r o false a f w e t h = step_none l v h
 step_same l v j c r o true a f w e t h =
-    step_take l v j c r o _ (record { reply = a; at_floor = f; within = w; waits = e; same = grind (arith, nat_tests) }) refl h
+    step_take l v j c r o _ (record {
+      reply = a;
+      at_floor = f;
+      within = w;
+      waits = e;
+      same = grind
+          (arith, nat_tests);
+    }) refl h
 
 step_waiting : (l : Priority) (v : View) (j : ℕ) (c : Transaction) (r : List ℕ)
     (o : Option Outstanding) → Replies l v.shared.packets j c r → v.lane.floor_up ≡ j
@@ -209,4 +233,5 @@ step_reply l v j c r wanted false a t h = step_none l v h
 step_reply l v j c r false true a t h = step_up l v j (may_floor _ j _ t) h
 step_reply l v j c r true true a t h =
     let first = step_up l v j (may_floor _ j _ t) h in
-    step_then first (step_waiting l (with_floor_up j v) j c r v.lane.outstanding a refl (may_within v.lane.floor_up j _ t) refl first.lane)
+    step_then first (step_waiting l (with_floor_up j v) j c r v.lane.outstanding a refl
+    (may_within v.lane.floor_up j _ t) refl first.lane)

@@ -89,4 +89,8 @@ abbrev pub first_shared : Shared
 first_shared = record { packets = []; draws = []; life = 1; history = [] }
 
 abbrev pub first_channel : ℕ → ℕ → Channel
-first_channel low high = record { shared = first_shared; low = first_lane_state low; high = first_lane_state high }
+first_channel low high = record {
+  shared = first_shared;
+  low = first_lane_state low;
+  high = first_lane_state high;
+}
