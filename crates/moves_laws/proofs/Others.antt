@@ -1,5 +1,5 @@
 -- Floors rise, an end starts, and what happens in the other lane.
-use Rattle.std.proofs.Common.{◌≢◌, ℕ, ◌≤◌, List, [], ◌∷◌, ◌++◌, slice_get, inr, ⊎_elim, ap, arith, length-append}
+use Rattle.std.proofs.Common.{◌≡◌, ◌≢◌, ℕ, ◌+◌, ◌≤◌, List, [], ◌∷◌, ◌++◌, length, slice_get, inr, ⊎_elim, ap, arith, length-append}
 use Rattle.std.proofs.lemmas.Option.{slice_get_within}
 use Rattle.omci_types.specs.declared.Priority.{Priority}
 use Rattle.mib_spec.specs.Database.{Database}
