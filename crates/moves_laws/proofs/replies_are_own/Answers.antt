@@ -1,5 +1,5 @@
 use Rattle.moves_laws.proofs.Reached.{channel_of, taken_is_own, taken_is_kept, taken_was_carried, taken_is_last}
-use Rattle.moves_laws.proofs.taking.Goals as goal
+use Rattle.moves_laws.proofs.replies_are_own.Goals as goal
 
 pub returns-clause-own : goal.returns-clause-own
 returns-clause-own c = λ l w at d bytes o r. taken_is_own l w at d bytes o (channel_of w r)
