@@ -1,114 +1,177 @@
--- The manager with its low lane: one command outstanding at most, and nothing but a probe until the lane is proved.
-use Rattle.std.specs.Prelude.{ℕ, ◌+◌, ◌==◌, ◌&&◌, ◌||◌, Bool, true, false, if◌then◌else◌, List, [], ◌∷◌, ◌++◌, replicate, Option, Some, None, Result, Ok, Err}
+-- The manager with its two lanes: one command outstanding in each at most, nothing but a probe until the lane is proved, and
+-- one change at a time.
+use Rattle.std.specs.Prelude.{ℕ, Bool, true, false, if◌then◌else◌, List, [], ◌∷◌, ◌++◌, Option, Some, None, Result, Ok, Err}
+use Rattle.std.specs.List.{flat_map}
 use Rattle.omci_types.specs.declared.EntityId.{EntityId}
 use Rattle.omci_types.specs.declared.Frame.{Frame}
-use Rattle.omci_types.specs.declared.Priority.TheVariants.{Low}
-use Rattle.message_spec.specs.declared.Message.TheVariants.{Asked}
+use Rattle.omci_types.specs.declared.Priority.{Priority}
+use Rattle.omci_types.specs.declared.Priority.TheVariants.{Low, High}
 use Rattle.message_spec.specs.declared.Request.{Request}
-use Rattle.message_spec.specs.declared.Request.TheVariants.{Get}
-use Rattle.message_spec.specs.Reading.{plain}
-use Rattle.frame_spec.specs.Baseline.{spelling, packet_frame}
-use Rattle.manager_spec.specs.declared.Outstanding.{Outstanding}
+use Rattle.frame_spec.specs.Baseline.{packet_frame}
+use Rattle.tci_spec.specs.Tci.{priority_of}
+use Rattle.lane_spec.specs.declared.LaneTick.{LaneTick}
+use Rattle.lane_spec.specs.declared.LaneTick.TheVariants.{Quiet, Repeat, GaveUp}
+use Rattle.lane_spec.specs.Command.{Command, probe_command, ask, command_packets, is_changing}
+use Rattle.lane_spec.specs.Lane.{Lane, Waiting, new_lane, next_tci, with_command, lane_tick, lane_reply}
 use Rattle.manager_spec.specs.declared.Refusal.{Refusal}
-use Rattle.manager_spec.specs.declared.Refusal.TheVariants.{Unproven, Occupied}
+use Rattle.manager_spec.specs.declared.Refusal.TheVariants.{Unproven, Occupied, ChangeOutstanding}
 use Rattle.manager_spec.specs.declared.Report.{Report}
-use Rattle.manager_spec.specs.declared.Report.TheVariants.{Took, Proved, Dropped}
+use Rattle.manager_spec.specs.declared.Report.TheVariants as report
 
--- whether the low lane is proved, the number that its next command draws, and the command that waits for its reply
+-- the two lanes, and the reports that wait to be taken out, oldest first
 pub record Manager : Type 0 where
-  pub proved : Bool
-  pub next : ℕ
-  pub outstanding : Option Outstanding
+  pub low : Lane
+  pub high : Lane
+  pub reports : List Report
 
--- a manager that starts with this number: nothing is proved, nothing is outstanding
-abbrev pub started : ℕ → Manager
-started low = record { proved = false; next = low; outstanding = None }
+-- a manager that starts with these numbers of its lanes: nothing is proved, nothing is outstanding
+abbrev pub manager_started : (low high : ℕ) → Manager
+manager_started low high = record { low = new_lane Low low; high = new_lane High high; reports = [] }
 
--- the number after a number of a lane: they go from 1 to 32,767 and round
-abbrev pub number_after : ℕ → ℕ
-number_after n = if n == 32767 then 1 else n + 1
+abbrev pub lane_in : Priority → Manager → Lane
+lane_in Low m = m.low
+lane_in High m = m.high
 
--- the request of a low command: its TCI is its number
-unfoldable pub request_frame : ℕ → EntityId → Request → Frame
-request_frame number entity request = plain (Asked number entity request)
+abbrev pub with_lane : Priority → Lane → Manager → Manager
+with_lane Low l m = record m { low = l }
+with_lane High l m = record m { high = l }
 
--- the attribute that a probe asks for: MIB data sync of ONU data
-abbrev pub sync_entity : EntityId
-sync_entity = record { class = 2; instance = 0 }
+abbrev pub other_lane : Priority → Priority
+other_lane Low = High
+other_lane High = Low
 
-abbrev pub sync_request : Request
-sync_request = Get 32768
+abbrev pub with_report : Report → Manager → Manager
+with_report r m = record m { reports = m.reports ++ r ∷ [] }
 
--- what a submission comes to: the manager after it, and the packet that it sends or why it sends none
-pub record Submission : Type 0 where
+-- ---- what a step comes to
+
+-- packets of a lane's command, which it draws now or sends again
+pub record Sending : Type 0 where
+  pub lane : Priority
+  pub drawn : Bool
+  pub packets : List (List ℕ)
+
+-- the manager after a step, and what it sends, in order
+pub record Outcome : Type 0 where
   pub manager : Manager
-  pub outcome : Result (List ℕ) Refusal
+  pub sendings : List Sending
 
-abbrev pub refused : Refusal → Manager → Submission
-refused refusal m = record { manager = m; outcome = Err refusal }
+abbrev pub sends_nothing : Manager → Outcome
+sends_nothing m = record { manager = m; sendings = [] }
 
--- the command that waits from now on
-abbrev pub command_of : Bool → Frame → Outstanding
-command_of probe f = record { tci = f.tci; kind = f.kind; entity = f.entity; probe = probe }
+-- one step and then another
+abbrev pub and_then : Outcome → (Manager → Outcome) → Outcome
+and_then o next = record { manager = (next o.manager).manager; sendings = o.sendings ++ (next o.manager).sendings }
 
-abbrev pub sent : Bool → Frame → Manager → Submission
-sent probe f m =
+-- all packets that a step sends
+abbrev pub packets_of : List Sending → List (List ℕ)
+packets_of sendings = flat_map (λ s. s.packets) sendings
+
+-- ---- submissions
+
+-- the lane isn't proved
+abbrev pub unproven : Priority → Manager → Option Refusal
+unproven lane m = if (lane_in lane m).proved then None else Some (Unproven lane)
+
+abbrev pub occupied_by : Option Waiting → Option Refusal
+occupied_by None = None
+occupied_by (Some w) = Some (Occupied w.tci)
+
+-- a command is outstanding in the lane
+abbrev pub occupied : Priority → Manager → Option Refusal
+occupied lane m = occupied_by (lane_in lane m).outstanding
+
+abbrev pub changed_by : Option Waiting → Option Refusal
+changed_by None = None
+changed_by (Some w) = if is_changing w.command.request then Some (ChangeOutstanding w.tci) else None
+
+-- the request is a change, and one is outstanding in the other lane
+abbrev pub second_change : Request → Priority → Manager → Option Refusal
+second_change r lane m = if is_changing r then changed_by (lane_in (other_lane lane) m).outstanding else None
+
+-- the first of these that holds
+abbrev pub first_refusal : List (Option Refusal) → Option Refusal
+first_refusal [] = None
+first_refusal (None ∷ rest) = first_refusal rest
+first_refusal (Some refusal ∷ rest) = Some refusal
+
+abbrev pub unless_refused : Option Refusal → Outcome → Result Outcome Refusal
+unless_refused None o = Ok o
+unless_refused (Some refusal) o = Err refusal
+
+-- a command draws its lane's next number and goes out
+abbrev pub command_sent : Priority → Command → Manager → Outcome
+command_sent lane c m =
     record {
-      manager = record { proved = m.proved; next = number_after m.next; outstanding = Some (command_of probe f) };
-      outcome = Ok (spelling f);
+      manager = with_lane lane (with_command c (lane_in lane m)) m;
+      sendings = record { lane = lane; drawn = true; packets = command_packets (next_tci (lane_in lane m)) c } ∷ [];
     }
 
--- a lane with a command outstanding takes no other
-abbrev pub unless_occupied : Option Outstanding → Bool → Frame → Manager → Submission
-unless_occupied None probe f m = sent probe f m
-unless_occupied (Some o) probe f m = refused (Occupied o.tci) m
+-- a probe of a lane
+unfoldable pub after_probe : Priority → Manager → Result Outcome Refusal
+after_probe lane m = unless_refused (occupied lane m) (command_sent lane probe_command m)
 
--- a lane that isn't proved takes nothing but a probe
-abbrev pub unless_unproven : Bool → Frame → Manager → Submission
-unless_unproven true f m = unless_occupied m.outstanding false f m
-unless_unproven false f m = refused (Unproven Low) m
+-- why a request isn't submitted
+abbrev pub submit_refusal : Priority → Request → Manager → Option Refusal
+submit_refusal lane r m = first_refusal (unproven lane m ∷ occupied lane m ∷ second_change r lane m ∷ [])
 
--- a probe of the low lane
-unfoldable pub after_probe : Manager → Submission
-after_probe m = unless_occupied m.outstanding true (request_frame m.next sync_entity sync_request) m
+-- a request for an entity
+unfoldable pub after_submit : Priority → EntityId → Request → Manager → Result Outcome Refusal
+after_submit lane entity r m = unless_refused (submit_refusal lane r m) (command_sent lane (ask entity r) m)
 
--- a command for an entity
-unfoldable pub after_submit : EntityId → Request → Manager → Submission
-after_submit entity request m = unless_unproven m.proved (request_frame m.next entity request) m
+-- ---- a packet comes
 
--- what a packet comes to: the manager after it, and what it reports
-pub record Reception : Type 0 where
-  pub manager : Manager
-  pub report : Report
+abbrev pub packet_dropped : Manager → Outcome
+packet_dropped m = sends_nothing (with_report report.Dropped m)
 
-abbrev pub same_entity : EntityId → EntityId → Bool
-same_entity a b = (a.class == b.class) && (a.instance == b.instance)
+abbrev pub is_probing : Option Waiting → Bool
+is_probing None = false
+is_probing (Some w) = w.command.probe
 
--- Whether a frame answers a command: its TCI is the command's, and unless the command is a probe it is of the command's
--- type with AK in place of AR, and names its entity.
-abbrev pub answers : Outstanding → Frame → Bool
-answers o f = (f.tci == o.tci) && (o.probe || ((f.kind + 32 == o.kind) && same_entity f.entity o.entity))
+-- the reply to a probe proves its lane, whatever it says; another command's reply is handed on
+abbrev pub reply_report : Bool → Priority → Frame → Report
+reply_report true lane f = report.Proved lane
+reply_report false lane f = report.Took f
 
-abbrev pub dropped : Manager → Reception
-dropped m = record { manager = m; report = Dropped }
+-- the lane's outstanding command is answered, or nothing there is
+abbrev pub take_if : Bool → Priority → Frame → Manager → Outcome
+take_if false lane f m = packet_dropped m
+take_if true lane f m =
+    sends_nothing (
+    with_report
+    (reply_report (is_probing (lane_in lane m).outstanding) lane f)
+    (with_lane lane (lane_reply f (lane_in lane m)).lane m)
+    )
 
--- any answer to a probe proves the lane; another command's answer is handed on
-abbrev pub ended : Bool → Frame → Manager → Reception
-ended true f m = record { manager = record { proved = true; next = m.next; outstanding = None }; report = Proved Low }
-ended false f m = record { manager = record { proved = m.proved; next = m.next; outstanding = None }; report = Took f }
+abbrev pub frame_came : Priority → Frame → Manager → Outcome
+frame_came lane f m = take_if (lane_reply f (lane_in lane m)).taken lane f m
 
-abbrev pub taken_if : Bool → Bool → Frame → Manager → Reception
-taken_if true probe f m = ended probe f m
-taken_if false probe f m = dropped m
-
-abbrev pub for_outstanding : Option Outstanding → Frame → Manager → Reception
-for_outstanding None f m = dropped m
-for_outstanding (Some o) f m = taken_if (answers o f) o.probe f m
-
-abbrev pub for_frame : Option Frame → Manager → Reception
-for_frame None m = dropped m
-for_frame (Some f) m = for_outstanding m.outstanding f m
+abbrev pub for_frame : Option Frame → Manager → Outcome
+for_frame None m = packet_dropped m
+for_frame (Some f) m = frame_came (priority_of f.tci) f m
 
 -- a packet that comes: one that isn't exactly one frame is no reply
-unfoldable pub after_packet : List ℕ → Manager → Reception
+unfoldable pub after_packet : List ℕ → Manager → Outcome
 after_packet bytes m = for_frame (packet_frame bytes) m
+
+-- ---- a second passes
+
+abbrev pub waiting_packets : Option Waiting → List (List ℕ)
+waiting_packets None = []
+waiting_packets (Some w) = command_packets w.tci w.command
+
+abbrev pub lane_ticked : LaneTick → Priority → Lane → Manager → Outcome
+lane_ticked Quiet lane l m = sends_nothing (with_lane lane l m)
+lane_ticked Repeat lane l m =
+    record {
+      manager = with_lane lane l m;
+      sendings = record { lane = lane; drawn = false; packets = waiting_packets l.outstanding } ∷ [];
+    }
+lane_ticked (GaveUp tci) lane l m = sends_nothing (with_report (report.GaveUp tci) (with_lane lane l m))
+
+abbrev pub tick_lane : Priority → Manager → Outcome
+tick_lane lane m = let t = lane_tick (lane_in lane m) in lane_ticked t.tick lane t.lane m
+
+-- the high lane, then the low lane
+unfoldable pub after_tick : Manager → Outcome
+after_tick m = and_then (tick_lane High m) (tick_lane Low)

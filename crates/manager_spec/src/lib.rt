@@ -1,36 +1,31 @@
-//! What the manager (the OLT end) is, and what it does with a submission and with a packet. Plain types and definitions
+//! What the manager (the OLT end) is, and what it does with a submission, a packet and a second. Plain types and definitions
 //! alone.
 #![tactic(auto)]
 
-use omci_types::{EntityId, Frame, Priority};
+use omci_types::{Frame, Priority};
 
-/// A command that was sent and not yet answered.
-#[derive(Clone, Copy, Debug, PartialEq, Eq)]
-pub struct Outstanding {
-    pub tci: u16,
-    /// The type byte of the request (ITU-T G.988, clause 11.2.3).
-    pub kind: u8,
-    pub entity: EntityId,
-    /// Whether the command is a probe: a get of MIB data sync that proves the lane by any answer.
-    pub probe: bool,
-}
-
-/// Why a command was not submitted. Nothing was sent, and nothing has changed.
+/// Why a command was not submitted. Nothing was sent, and nothing has changed. They are tested in this order.
 #[derive(Clone, Copy, Debug, PartialEq, Eq)]
 pub enum Refusal {
-    /// The lane has not been proved since the manager started.
+    /// The lane has not been proved since the manager started, or since it gave a command up.
     Unproven { lane: Priority },
     /// A command is outstanding in the lane.
     Occupied { tci: u16 },
+    /// The command is a change, and a change is outstanding in the other lane.
+    ChangeOutstanding { tci: u16 },
+    /// Memory ran out. No step of the machine gives it.
+    NoMemory,
 }
 
-/// What the manager reports of a packet that came.
+/// What the manager reports.
 #[derive(Clone, Copy, Debug, PartialEq, Eq)]
 pub enum Report {
-    /// The reply to a submitted command.
+    /// The reply to a submitted command came.
     Took { reply: Frame },
-    /// The reply to a probe.
+    /// The reply to a probe came.
     Proved { lane: Priority },
-    /// The packet is no reply to what is outstanding.
+    /// A command was given up, and its lane is no longer proved.
+    GaveUp { tci: u16 },
+    /// A packet came that is no reply to what is outstanding.
     Dropped,
 }

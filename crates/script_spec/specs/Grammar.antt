@@ -3,79 +3,62 @@ use Rattle.std.specs.Prelude.{◌≡◌, ◌≢◌, ℕ, ◌+◌, ◌*◌, ◌�
 use Rattle.std.specs.List.{All, AllPass, join_with_byte}
 use Rattle.std.specs.Char.{is_ascii_digit}
 use Rattle.hex.specs.Hex.{decode_of}
-use Rattle.omci_types.specs.declared.Priority.{Priority}
-use Rattle.omci_types.specs.declared.Priority.TheVariants.{Low, High}
-use Rattle.omci_types.specs.declared.EntityId.{EntityId}
-use Rattle.script_spec.specs.Script.{Action, Probe, Get, Create, Set, Delete, Reset, Deliver, Flow, Header, Script}
-use Rattle.script_spec.specs.Text.{decimal_value}
+use Rattle.script_spec.specs.declared.TheConstants.{MAX_DIGITS}
+use Rattle.script_spec.specs.Fields.{Value, Lane, Number, Bytes, Form, LaneName, Decimal, MaskDigits, HexBytes, NoiseBytes, Fits}
+use Rattle.script_spec.specs.Script.{Action, Row, row, said, Header, header_row, header_values, Script}
+use Rattle.script_spec.specs.Text.{decimal_value, lane_text}
 
 -- ---- words
 
--- What a word stands for. A number and bytes come with the least and the most that the word's place allows.
-pub data Word : Type 0 where
-  Literal : List ℕ → Word
-  Lane : Priority → Word
-  Number : ℕ → ℕ → ℕ → Word
-  Mask : ℕ → Word
-  Bytes : ℕ → ℕ → List ℕ → Word
-
--- 1 to 18 decimal digits, zeros in front among them, of a number within its bounds
-pub record SpellsNumber (lowest highest n : ℕ) (word : List ℕ) : Type 0 where
+-- 1 to `MAX_DIGITS` decimal digits of a number, zeros in front among them
+pub record SpellsNumber (n : ℕ) (word : List ℕ) : Type 0 where
   pub digits : AllPass is_ascii_digit word
   pub some : 1 ≤ length word
-  pub few : length word ≤ 18
+  pub few : length word ≤ MAX_DIGITS
   pub value : decimal_value word ≡ n
-  pub low : lowest ≤ n
-  pub high : n ≤ highest
+
+-- four hex digits in either case of two bytes, the high one first
+abbrev pub SpellsMask : ℕ → List ℕ → Type 0
+SpellsMask mask word = (first second : ℕ) × (decode_of word ≡ Ok (first ∷ second ∷ [])) × (mask ≡ first * 256 + second)
 
 -- hex digits in either case, two for each byte; `-` where there is no byte
 abbrev pub SpellsBytes : List ℕ → List ℕ → Type 0
 SpellsBytes [] word = word ≡ codes "-"
 SpellsBytes (b ∷ bytes) word = decode_of word ≡ Ok (b ∷ bytes)
 
--- the lanes have their names; scripts name the low one alone
-abbrev pub SpellsLane : Priority → List ℕ → Type 0
-SpellsLane Low word = word ≡ codes "low"
-SpellsLane High word = ⊥
+-- the word is a text of the value
+abbrev pub IsTextOf : Form → Value → List ℕ → Type 0
+IsTextOf LaneName (Lane lane) word = word ≡ lane_text lane
+IsTextOf (Decimal lowest highest) (Number n) word = SpellsNumber n word
+IsTextOf MaskDigits (Number n) word = SpellsMask n word
+IsTextOf (HexBytes fewest most) (Bytes bytes) word = SpellsBytes bytes word
+IsTextOf (NoiseBytes most) (Bytes bytes) word = SpellsBytes bytes word
+IsTextOf _ _ word = ⊥
 
-abbrev pub Spells : Word → List ℕ → Type 0
-Spells (Literal text) word = word ≡ text
-Spells (Lane lane) word = SpellsLane lane word
-Spells (Number low high n) word = SpellsNumber low high n word
-Spells (Mask mask) word = (first second : ℕ) × (decode_of word ≡ Ok (first ∷ second ∷ [])) × (mask ≡ first * 256 + second)
-Spells (Bytes fewest most bytes) word = SpellsBytes bytes word × (fewest ≤ length bytes) × (length bytes ≤ most)
+-- a value of the form, and a text of it
+pub record Spells (form : Form) (value : Value) (word : List ℕ) : Type 0 where
+  pub fits : Fits form value
+  pub text : IsTextOf form value word
 
--- each word stands for its part, in order
-abbrev pub SpellEach : List Word → List (List ℕ) → Type 0
-SpellEach [] [] = Unit {0}
-SpellEach [] (word ∷ words) = ⊥
-SpellEach (part ∷ parts) [] = ⊥
-SpellEach (part ∷ parts) (word ∷ words) = Spells part word × SpellEach parts words
-
--- a text of words that are parted by single spaces
-abbrev pub SpellsAll : List Word → List ℕ → Type 0
-SpellsAll parts text = (words : List (List ℕ)) × (text ≡ join_with_byte 32 words) × SpellEach parts words
+-- each word stands for its value, in order
+abbrev pub SpellEach : List Form → List Value → List (List ℕ) → Type 0
+SpellEach [] [] [] = Unit {0}
+SpellEach (form ∷ forms) (value ∷ values) (word ∷ words) = Spells form value word × SpellEach forms values words
+SpellEach _ _ _ = ⊥
 
 -- ---- lines
 
-abbrev pub class_and_instance : EntityId → List Word
-class_and_instance entity = Number 0 65535 entity.class ∷ Number 0 65535 entity.instance ∷ []
+-- a text of words that are parted by single spaces: the row's own, and then those of the values
+abbrev pub SpellsLine : Row → List Value → List ℕ → Type 0
+SpellsLine line values text = (words : List (List ℕ)) × (text ≡ join_with_byte 32 (line.name ++ words)) × SpellEach line.fields values words
 
--- the words of the line that asks for an action
-abbrev pub line_words : Action → List Word
-line_words (Probe lane) = Literal (codes "probe") ∷ Lane lane ∷ []
-line_words (Get lane entity mask) = Literal (codes "get") ∷ Lane lane ∷ class_and_instance entity ++ Mask mask ∷ []
-line_words (Create lane entity values) = Literal (codes "create") ∷ Lane lane ∷ class_and_instance entity ++ Bytes 0 32 values ∷ []
-line_words (Set lane entity mask values) = Literal (codes "set") ∷ Lane lane ∷ class_and_instance entity ++ Mask mask ∷ Bytes 0 30 values ∷ []
-line_words (Delete lane entity) = Literal (codes "delete") ∷ Lane lane ∷ class_and_instance entity
-line_words (Reset lane) = Literal (codes "reset") ∷ Lane lane ∷ []
-line_words (Deliver packet) = Literal (codes "deliver") ∷ Number 0 999999999999999999 packet ∷ []
-line_words (Flow times) = Literal (codes "flow") ∷ Number 1 65536 times ∷ []
+-- the line asks for the action
+abbrev pub SpellsAction : Action → List ℕ → Type 0
+SpellsAction action text = SpellsLine (row (said action).line) (said action).values text
 
--- the words of the header's line
-abbrev pub header_words : Header → List Word
-header_words header =
-    Literal (codes "omci") ∷ Literal (codes "1") ∷ Number 1 1048576 header.room ∷ Number 1 32767 header.low ∷ Number 1 32767 header.high ∷ Bytes 1 header.room header.factory ∷ []
+-- the line is that of a header
+abbrev pub SpellsHeader : Header → List ℕ → Type 0
+SpellsHeader header text = SpellsLine (header_row header.room) (header_values header) text
 
 -- an empty line, or one that begins with `#`
 abbrev pub IsPassedOver : List ℕ → Type 0
@@ -108,12 +91,12 @@ pub record BeginsWithLine (bytes text rest : List ℕ) : Type 0 where
 pub data WritesActions : List Action → List ℕ → Type 0 where
   no_line : WritesActions [] []
   passed_line : (text bytes rest : List ℕ) (actions : List Action) → BeginsWithLine bytes text rest → IsPassedOver text → WritesActions actions rest → WritesActions actions bytes
-  action_line : (text bytes rest : List ℕ) (action : Action) (actions : List Action) → BeginsWithLine bytes text rest → SpellsAll (line_words action) text → WritesActions actions rest → WritesActions (action ∷ actions) bytes
+  action_line : (text bytes rest : List ℕ) (action : Action) (actions : List Action) → BeginsWithLine bytes text rest → SpellsAction action text → WritesActions actions rest → WritesActions (action ∷ actions) bytes
 
 -- lines that are passed over, the header's line, and the actions
 pub data WritesScript : Header → List Action → List ℕ → Type 0 where
   passed_before : (text bytes rest : List ℕ) (header : Header) (actions : List Action) → BeginsWithLine bytes text rest → IsPassedOver text → WritesScript header actions rest → WritesScript header actions bytes
-  header_line : (text bytes rest : List ℕ) (header : Header) (actions : List Action) → BeginsWithLine bytes text rest → SpellsAll (header_words header) text → WritesActions actions rest → WritesScript header actions bytes
+  header_line : (text bytes rest : List ℕ) (header : Header) (actions : List Action) → BeginsWithLine bytes text rest → SpellsHeader header text → WritesActions actions rest → WritesScript header actions bytes
 
 -- the bytes are a text of this script
 abbrev pub Writes : Script → List ℕ → Type 0

@@ -1,5 +1,6 @@
+pub mod Fields
 pub mod Script
 pub mod Text
 pub mod Grammar
-pub mod Fault
 pub mod Reading
+pub mod Fault

@@ -1,13 +1,15 @@
 -- Reading a script from left to right: what it says, or its first fault by line and reason.
-use Rattle.std.specs.Prelude.{ℕ, ◌+◌, ◌&&◌, ◌==◌, nat_le, if◌then◌else◌, List, [], ◌∷◌, length, codes, Option, Some, None, Result, Ok, Err}
+use Rattle.std.specs.Prelude.{ℕ, ◌+◌, ◌&&◌, ◌==◌, nat_le, if◌then◌else◌, List, [], ◌∷◌, length, Option, Some, None, Result, Ok, Err}
 use Rattle.std.specs.Str.{bytes_eq}
 use Rattle.omci_types.specs.declared.Priority.{Priority}
-use Rattle.omci_types.specs.declared.Priority.TheVariants.{Low}
-use Rattle.omci_types.specs.declared.EntityId.{EntityId}
-use Rattle.script_spec.specs.declared.Keyword.{Keyword}
-use Rattle.script_spec.specs.declared.Keyword.TheVariants as keyword
-use Rattle.script_spec.specs.Script.{Action, Probe, Get, Create, Set, Delete, Reset, Deliver, Flow, Header, Script}
-use Rattle.script_spec.specs.Text.{lines_of, words_of, keyword_of, is_passed_over, is_number, decimal_value, hex_bytes, mask_of}
+use Rattle.omci_types.specs.declared.Priority.TheVariants.{Low, High}
+use Rattle.frame_spec.specs.declared.FrameFault.{FrameFault}
+use Rattle.frame_spec.specs.Baseline.{fault_of}
+use Rattle.script_spec.specs.declared.Line.{Line}
+use Rattle.script_spec.specs.declared.TheConstants.{WORD_FAULT, NUMBER_FAULT, HEX_FAULT, HEADER_FAULT, NOISE_FAULT}
+use Rattle.script_spec.specs.Fields.{Value, Lane, Number, Bytes, number_in, Form, LaneName, Decimal, MaskDigits, HexBytes, NoiseBytes}
+use Rattle.script_spec.specs.Script.{Action, row, all_lines, action_with, Header, header_name, header_size, room_field, fields_after_room, header_with, Script}
+use Rattle.script_spec.specs.Text.{lines_of, words_of, after_name, is_passed_over, lane_text, is_number, decimal_value, hex_bytes, mask_of}
 
 infixl 10 ◌>>=◌
 abbrev pub ◌>>=◌ : {A B E : Type 0} → Result A E → (A → Result B E) → Result B E
@@ -17,7 +19,7 @@ abbrev pub ◌>>=◌ : {A B E : Type 0} → Result A E → (A → Result B E) �
 -- ---- words
 
 abbrev pub lane_of : List ℕ → Option Priority
-lane_of word = if bytes_eq word (codes "low") then Some Low else None
+lane_of word = if bytes_eq word (lane_text Low) then Some Low else if bytes_eq word (lane_text High) then Some High else None
 
 abbrev pub number_of : ℕ → ℕ → List ℕ → Option ℕ
 number_of low high word = if is_number low high word then Some (decimal_value word) else None
@@ -35,109 +37,83 @@ abbrev pub or_reason : {A : Type 0} → ℕ → Option A → Result A ℕ
 or_reason reason (Some value) = Ok value
 or_reason reason None = Err reason
 
+-- bytes with this fault as a frame; bytes without one are no noise
+abbrev pub noise_with : Option FrameFault → List ℕ → Result (List ℕ) ℕ
+noise_with (Some fault) bytes = Ok bytes
+noise_with None bytes = Err NOISE_FAULT
+
+abbrev pub noise_of : ℕ → List ℕ → Result (List ℕ) ℕ
+noise_of most word = or_reason HEX_FAULT (bytes_of 0 most word) >>= λ bytes. noise_with (fault_of bytes) bytes
+
+-- what a word says in a field of this form
+unfoldable pub word_value : Form → List ℕ → Result Value ℕ
+word_value LaneName word = or_reason WORD_FAULT (lane_of word) >>= λ lane. Ok (Lane lane)
+word_value (Decimal low high) word = or_reason NUMBER_FAULT (number_of low high word) >>= λ n. Ok (Number n)
+word_value MaskDigits word = or_reason HEX_FAULT (mask_of word) >>= λ mask. Ok (Number mask)
+word_value (HexBytes fewest most) word = or_reason HEX_FAULT (bytes_of fewest most word) >>= λ bytes. Ok (Bytes bytes)
+word_value (NoiseBytes most) word = noise_of most word >>= λ bytes. Ok (Bytes bytes)
+
 -- the first word, and the words after it
 unfoldable pub word_at : List (List ℕ) → Result (List ℕ × List (List ℕ)) ℕ
-word_at [] = Err 1
+word_at [] = Err WORD_FAULT
 word_at (word ∷ words) = Ok (word, words)
 
--- A part of a line is its value and the words after it.
-abbrev pub part_at : {A : Type 0} → ℕ → (List ℕ → Option A) → List (List ℕ) → Result (A × List (List ℕ)) ℕ
-part_at reason value_of words = do
+-- what the first word says in a field of this form, and the words after it
+unfoldable pub field_at : Form → List (List ℕ) → Result (Value × List (List ℕ)) ℕ
+field_at form words = do
   word ← word_at words
-  value ← or_reason reason (value_of word.0)
+  value ← word_value form word.0
   Ok (value, word.1)
 
-unfoldable pub lane_at : List (List ℕ) → Result (Priority × List (List ℕ)) ℕ
-lane_at words = part_at 1 lane_of words
-
-unfoldable pub number_at : ℕ → ℕ → List (List ℕ) → Result (ℕ × List (List ℕ)) ℕ
-number_at low high words = part_at 2 (number_of low high) words
-
-unfoldable pub mask_at : List (List ℕ) → Result (ℕ × List (List ℕ)) ℕ
-mask_at words = part_at 3 mask_of words
-
-unfoldable pub bytes_at : ℕ → ℕ → List (List ℕ) → Result (List ℕ × List (List ℕ)) ℕ
-bytes_at fewest most words = part_at 3 (bytes_of fewest most) words
-
-unfoldable pub entity_at : List (List ℕ) → Result (EntityId × List (List ℕ)) ℕ
-entity_at words = do
-  class ← number_at 0 65535 words
-  instance ← number_at 0 65535 class.1
-  Ok (record { class = class.0; instance = instance.0 }, instance.1)
+-- what the words say in these fields, one after the other
+abbrev pub values_at : List Form → List (List ℕ) → Result (List Value) ℕ
+values_at [] words = Ok []
+values_at (form ∷ forms) words = do
+  value ← field_at form words
+  values ← values_at forms value.1
+  Ok (value.0 ∷ values)
 
 -- ---- lines
 
 -- as many words as there have to be
 abbrev pub counted : ℕ → List (List ℕ) → Result (List (List ℕ)) ℕ
-counted count words = if length words == count then Ok words else Err 1
+counted count words = if length words == count then Ok words else Err WORD_FAULT
 
--- what the words after a keyword ask for
-unfoldable pub action_at : Keyword → List (List ℕ) → Result Action ℕ
-action_at keyword.Probe words = do
-  parts ← counted 1 words
-  lane ← lane_at parts
-  Ok (Probe lane.0)
-action_at keyword.Get words = do
-  parts ← counted 4 words
-  lane ← lane_at parts
-  entity ← entity_at lane.1
-  mask ← mask_at entity.1
-  Ok (Get lane.0 entity.0 mask.0)
-action_at keyword.Create words = do
-  parts ← counted 4 words
-  lane ← lane_at parts
-  entity ← entity_at lane.1
-  values ← bytes_at 0 32 entity.1
-  Ok (Create lane.0 entity.0 values.0)
-action_at keyword.Set words = do
-  parts ← counted 5 words
-  lane ← lane_at parts
-  entity ← entity_at lane.1
-  mask ← mask_at entity.1
-  values ← bytes_at 0 30 mask.1
-  Ok (Set lane.0 entity.0 mask.0 values.0)
-action_at keyword.Delete words = do
-  parts ← counted 3 words
-  lane ← lane_at parts
-  entity ← entity_at lane.1
-  Ok (Delete lane.0 entity.0)
-action_at keyword.Reset words = do
-  parts ← counted 1 words
-  lane ← lane_at parts
-  Ok (Reset lane.0)
-action_at keyword.Deliver words = do
-  parts ← counted 1 words
-  packet ← number_at 0 999999999999999999 parts
-  Ok (Deliver packet.0)
-action_at keyword.Flow words = do
-  parts ← counted 1 words
-  times ← number_at 1 65536 parts
-  Ok (Flow times.0)
+-- a kind of line whose name has these words after it, or else one of the others
+abbrev pub or_among : Line → Option (List (List ℕ)) → Option (Line × List (List ℕ)) → Option (Line × List (List ℕ))
+or_among line (Some words) others = Some (line, words)
+or_among line None others = others
 
--- the keyword of a line, and the words after it
-unfoldable pub keyword_at : List (List ℕ) → Result (Keyword × List (List ℕ)) ℕ
-keyword_at words = part_at 1 keyword_of words
+-- the first of some kinds of lines whose name the words begin with, and the words after it
+abbrev pub named_among : List Line → List (List ℕ) → Option (Line × List (List ℕ))
+named_among [] words = None
+named_among (line ∷ lines) words = or_among line (after_name (row line).name words) (named_among lines words)
+
+unfoldable pub line_named : List (List ℕ) → Option (Line × List (List ℕ))
+line_named words = named_among all_lines words
+
+unfoldable pub line_at : List (List ℕ) → Result (Line × List (List ℕ)) ℕ
+line_at words = or_reason WORD_FAULT (line_named words)
+
+-- what the words after a line's name ask for
+unfoldable pub action_at : Line → List (List ℕ) → Result Action ℕ
+action_at line words = do
+  parts ← counted (length (row line).fields) words
+  values ← values_at (row line).fields parts
+  Ok (action_with line values)
 
 unfoldable pub line_action : List (List ℕ) → Result Action ℕ
 line_action words = do
-  word ← keyword_at words
-  action_at word.0 word.1
-
--- the words after one that has to be this text
-unfoldable pub literal_at : List ℕ → List (List ℕ) → Result (List (List ℕ)) ℕ
-literal_at text [] = Err 1
-literal_at text (word ∷ words) = if bytes_eq word text then Ok words else Err 1
+  found ← line_at words
+  action_at found.0 found.1
 
 unfoldable pub header_at : List (List ℕ) → Result Header ℕ
 header_at words = do
-  parts ← counted 6 words
-  version ← literal_at (codes "omci") parts
-  numbers ← literal_at (codes "1") version
-  room ← number_at 1 1048576 numbers
-  low ← number_at 1 32767 room.1
-  high ← number_at 1 32767 low.1
-  factory ← bytes_at 1 room.0 high.1
-  Ok (record { room = room.0; low = low.0; high = high.0; factory = factory.0 })
+  after ← or_reason WORD_FAULT (after_name header_name words)
+  parts ← counted header_size after
+  room ← field_at room_field parts
+  values ← values_at (fields_after_room (number_in room.0)) room.1
+  Ok (header_with (room.0 ∷ values))
 
 -- ---- scripts
 
@@ -146,10 +122,10 @@ abbrev pub on_line : {A : Type 0} → ℕ → Result A ℕ → Result A (ℕ × 
 on_line line (Ok value) = Ok value
 on_line line (Err reason) = Err (line, reason)
 
--- each fault of a header has reason 4
+-- each fault of a header has one reason
 abbrev pub as_header : {A : Type 0} → ℕ → Result A ℕ → Result A (ℕ × ℕ)
 as_header line (Ok value) = Ok value
-as_header line (Err reason) = Err (line, 4)
+as_header line (Err reason) = Err (line, HEADER_FAULT)
 
 -- an action before others
 abbrev pub with_action : Option Action → List Action → List Action
@@ -174,7 +150,7 @@ script_with line texts header = events_reading line texts >>= λ actions. Ok (re
 
 -- the same where the header has not come
 unfoldable pub script_reading : ℕ → List (List ℕ) → Result Script (ℕ × ℕ)
-script_reading line [] = Err (line, 4)
+script_reading line [] = Err (line, HEADER_FAULT)
 script_reading line (text ∷ texts) =
     if is_passed_over text then script_reading (line + 1) texts
     else as_header line (header_at (words_of text)) >>= script_with (line + 1) texts

@@ -1,20 +1,153 @@
--- What a script says: a header, and the events after it.
-use Rattle.std.specs.Prelude.{◌≡◌, ◌≤◌, ◌<◌, ◌^◌, ℕ, List, length}
+-- What a script says: a header, and what each line after it asks for, by one table of the kinds of lines.
+use Rattle.std.specs.Prelude.{◌≤◌, ℕ, zero, suc, List, [], ◌∷◌, length, codes}
 use Rattle.std.specs.List.{All}
 use Rattle.omci_types.specs.declared.Priority.{Priority}
-use Rattle.omci_types.specs.declared.Priority.TheVariants.{Low}
 use Rattle.omci_types.specs.declared.EntityId.{EntityId}
+use Rattle.script_spec.specs.declared.TheConstants.{LAST_PACKET, MAX_ID, MAX_CREATE, MAX_SET, MAX_FLOW, MAX_NOISE, LAST_NUMBER, MAX_ROOM}
+use Rattle.script_spec.specs.declared.Line.{Line}
+use Rattle.script_spec.specs.declared.Line.TheVariants as lines
+use Rattle.script_spec.specs.Fields.{Value, Lane, Number, Bytes, lane_in, number_in, bytes_in, Form, LaneName, Decimal, MaskDigits, HexBytes, NoiseBytes, AreBytes, AllFit}
 
 -- What one line of a script asks for. Bytes are kept as they were written, not filled.
 pub data Action : Type 0 where
+  -- the manager's commands
   Probe : Priority → Action
+  Reset : Priority → Action
   Get : Priority → EntityId → ℕ → Action
   Create : Priority → EntityId → List ℕ → Action
   Set : Priority → EntityId → ℕ → List ℕ → Action
   Delete : Priority → EntityId → Action
-  Reset : Priority → Action
+  -- the link
   Deliver : ℕ → Action
   Flow : ℕ → Action
+  NoiseUnit : List ℕ → Action
+  NoiseOlt : List ℕ → Action
+  -- one second
+  Tick : Action
+  -- power, and the first numbers of the manager's two lanes
+  CutUnit : Action
+  CutOlt : Action
+  StartUnit : Action
+  StartOlt : ℕ → ℕ → Action
+
+-- ---- the table of lines
+
+-- A kind of line: the words that it begins with, and the forms of the words after them.
+pub record Row : Type 0 where
+  pub name : List (List ℕ)
+  pub fields : List Form
+
+abbrev pub line : List (List ℕ) → List Form → Row
+line name fields = record { name = name; fields = fields }
+
+-- a class, and an instance
+abbrev pub id : Form
+id = Decimal 0 MAX_ID
+
+-- the number of a lane's first command
+abbrev pub lane_number : Form
+lane_number = Decimal 1 LAST_NUMBER
+
+abbrev pub row : Line → Row
+row lines.Probe = line (codes "probe" ∷ []) (LaneName ∷ [])
+row lines.Reset = line (codes "reset" ∷ []) (LaneName ∷ [])
+row lines.Get = line (codes "get" ∷ []) (LaneName ∷ id ∷ id ∷ MaskDigits ∷ [])
+row lines.Create = line (codes "create" ∷ []) (LaneName ∷ id ∷ id ∷ HexBytes 0 MAX_CREATE ∷ [])
+row lines.Set = line (codes "set" ∷ []) (LaneName ∷ id ∷ id ∷ MaskDigits ∷ HexBytes 0 MAX_SET ∷ [])
+row lines.Delete = line (codes "delete" ∷ []) (LaneName ∷ id ∷ id ∷ [])
+row lines.Deliver = line (codes "deliver" ∷ []) (Decimal 0 LAST_PACKET ∷ [])
+row lines.Flow = line (codes "flow" ∷ []) (Decimal 1 MAX_FLOW ∷ [])
+row lines.NoiseUnit = line (codes "noise" ∷ codes "unit" ∷ []) (NoiseBytes MAX_NOISE ∷ [])
+row lines.NoiseOlt = line (codes "noise" ∷ codes "olt" ∷ []) (NoiseBytes MAX_NOISE ∷ [])
+row lines.Tick = line (codes "tick" ∷ []) []
+row lines.CutUnit = line (codes "cut" ∷ codes "unit" ∷ []) []
+row lines.CutOlt = line (codes "cut" ∷ codes "olt" ∷ []) []
+row lines.StartUnit = line (codes "start" ∷ codes "unit" ∷ []) []
+row lines.StartOlt = line (codes "start" ∷ codes "olt" ∷ []) (lane_number ∷ lane_number ∷ [])
+
+-- all the kinds of lines
+abbrev pub all_lines : List Line
+all_lines =
+    lines.Probe ∷ lines.Reset ∷ lines.Get ∷ lines.Create ∷ lines.Set ∷ lines.Delete ∷ lines.Deliver ∷ lines.Flow
+    ∷ lines.NoiseUnit ∷ lines.NoiseOlt ∷ lines.Tick ∷ lines.CutUnit ∷ lines.CutOlt ∷ lines.StartUnit ∷ lines.StartOlt ∷ []
+
+-- ---- an action and its line
+
+-- a kind of line, and what its words after the name say
+pub record Said : Type 0 where
+  pub line : Line
+  pub values : List Value
+
+abbrev pub says : Line → List Value → Said
+says line values = record { line = line; values = values }
+
+-- what the line of an action says
+abbrev pub said : Action → Said
+said (Probe lane) = says lines.Probe (Lane lane ∷ [])
+said (Reset lane) = says lines.Reset (Lane lane ∷ [])
+said (Get lane entity mask) = says lines.Get (Lane lane ∷ Number entity.class ∷ Number entity.instance ∷ Number mask ∷ [])
+said (Create lane entity values) = says lines.Create (Lane lane ∷ Number entity.class ∷ Number entity.instance ∷ Bytes values ∷ [])
+said (Set lane entity mask values) = says lines.Set (Lane lane ∷ Number entity.class ∷ Number entity.instance ∷ Number mask ∷ Bytes values ∷ [])
+said (Delete lane entity) = says lines.Delete (Lane lane ∷ Number entity.class ∷ Number entity.instance ∷ [])
+said (Deliver packet) = says lines.Deliver (Number packet ∷ [])
+said (Flow times) = says lines.Flow (Number times ∷ [])
+said (NoiseUnit bytes) = says lines.NoiseUnit (Bytes bytes ∷ [])
+said (NoiseOlt bytes) = says lines.NoiseOlt (Bytes bytes ∷ [])
+said Tick = says lines.Tick []
+said CutUnit = says lines.CutUnit []
+said CutOlt = says lines.CutOlt []
+said StartUnit = says lines.StartUnit []
+said (StartOlt low high) = says lines.StartOlt (Number low ∷ Number high ∷ [])
+
+abbrev pub first_value : List Value → Value
+first_value [] = Bytes []
+first_value (value ∷ values) = value
+
+abbrev pub later_values : List Value → List Value
+later_values [] = []
+later_values (value ∷ values) = values
+
+-- the value at a place, from 0
+abbrev pub value_at : ℕ → List Value → Value
+value_at zero values = first_value values
+value_at (suc place) values = value_at place (later_values values)
+
+abbrev pub lane_at : ℕ → List Value → Priority
+lane_at place values = lane_in (value_at place values)
+
+abbrev pub number_at : ℕ → List Value → ℕ
+number_at place values = number_in (value_at place values)
+
+abbrev pub bytes_at : ℕ → List Value → List ℕ
+bytes_at place values = bytes_in (value_at place values)
+
+-- the entity whose class stands at a place, with its instance after it
+abbrev pub entity_at : ℕ → List Value → EntityId
+entity_at place values = record { class = number_at place values; instance = number_at (suc place) values }
+
+-- the action of a line that says these values
+abbrev pub action_with : Line → List Value → Action
+action_with lines.Probe v = Probe (lane_at 0 v)
+action_with lines.Reset v = Reset (lane_at 0 v)
+action_with lines.Get v = Get (lane_at 0 v) (entity_at 1 v) (number_at 3 v)
+action_with lines.Create v = Create (lane_at 0 v) (entity_at 1 v) (bytes_at 3 v)
+action_with lines.Set v = Set (lane_at 0 v) (entity_at 1 v) (number_at 3 v) (bytes_at 4 v)
+action_with lines.Delete v = Delete (lane_at 0 v) (entity_at 1 v)
+action_with lines.Deliver v = Deliver (number_at 0 v)
+action_with lines.Flow v = Flow (number_at 0 v)
+action_with lines.NoiseUnit v = NoiseUnit (bytes_at 0 v)
+action_with lines.NoiseOlt v = NoiseOlt (bytes_at 0 v)
+action_with lines.Tick v = Tick
+action_with lines.CutUnit v = CutUnit
+action_with lines.CutOlt v = CutOlt
+action_with lines.StartUnit v = StartUnit
+action_with lines.StartOlt v = StartOlt (number_at 0 v) (number_at 1 v)
+
+-- each value is one that the line's row allows
+abbrev pub IsAction : Action → Type 0
+IsAction action = AllFit (row (said action).line).fields (said action).values
+
+-- ---- the header, and the whole
 
 -- The room of an image slot in bytes, the first numbers of the two lanes, and the image that the unit leaves the
 -- factory with.
@@ -24,42 +157,42 @@ pub record Header : Type 0 where
   pub high : ℕ
   pub factory : List ℕ
 
+-- the words that a header begins with
+abbrev pub header_name : List (List ℕ)
+header_name = codes "omci" ∷ codes "1" ∷ []
+
+abbrev pub room_field : Form
+room_field = Decimal 1 MAX_ROOM
+
+-- the fields after the room; the image has to fit it
+abbrev pub fields_after_room : ℕ → List Form
+fields_after_room room = lane_number ∷ lane_number ∷ HexBytes 1 room ∷ []
+
+-- the header's row, where the image slots have this room
+abbrev pub header_row : ℕ → Row
+header_row room = line header_name (room_field ∷ fields_after_room room)
+
+-- how many words stand after a header's name
+abbrev pub header_size : ℕ
+header_size = length (header_row 0).fields
+
+abbrev pub header_values : Header → List Value
+header_values header = Number header.room ∷ Number header.low ∷ Number header.high ∷ Bytes header.factory ∷ []
+
+abbrev pub header_with : List Value → Header
+header_with v = record { room = number_at 0 v; low = number_at 1 v; high = number_at 2 v; factory = bytes_at 3 v }
+
 pub record Script : Type 0 where
   pub header : Header
   pub actions : List Action
 
--- each element is a byte
-abbrev pub IsBytes : List ℕ → Type 0
-IsBytes bytes = All (λ b. b < 256) bytes
-
--- a class and an instance of 16 bits each
-pub record IsEntity (entity : EntityId) : Type 0 where
-  pub class : entity.class < 65536
-  pub instance : entity.instance < 65536
-
--- bytes, and at most so many
-pub record AreBytes (most : ℕ) (values : List ℕ) : Type 0 where
-  pub few : length values ≤ most
-  pub bytes : IsBytes values
-
--- Scripts name the low lane alone.
-abbrev pub IsAction : Action → Type 0
-IsAction (Probe lane) = lane ≡ Low
-IsAction (Get lane entity mask) = (lane ≡ Low) × IsEntity entity × (mask < 65536)
-IsAction (Create lane entity values) = (lane ≡ Low) × IsEntity entity × AreBytes 32 values
-IsAction (Set lane entity mask values) = (lane ≡ Low) × IsEntity entity × (mask < 65536) × AreBytes 30 values
-IsAction (Delete lane entity) = (lane ≡ Low) × IsEntity entity
-IsAction (Reset lane) = lane ≡ Low
-IsAction (Deliver packet) = packet < 10 ^ 18
-IsAction (Flow times) = (1 ≤ times) × (times ≤ 65536)
-
 pub record IsHeader (header : Header) : Type 0 where
   pub room_some : 1 ≤ header.room
-  pub room_most : header.room ≤ 1048576
+  pub room_most : header.room ≤ MAX_ROOM
   pub low_some : 1 ≤ header.low
-  pub low_most : header.low ≤ 32767
+  pub low_most : header.low ≤ LAST_NUMBER
   pub high_some : 1 ≤ header.high
-  pub high_most : header.high ≤ 32767
+  pub high_most : header.high ≤ LAST_NUMBER
   pub factory_some : 1 ≤ length header.factory
   pub factory_fits : AreBytes header.room header.factory
 

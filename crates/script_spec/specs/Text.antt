@@ -5,8 +5,9 @@ use Rattle.std.specs.Char.{is_ascii_digit}
 use Rattle.std.specs.Str.{bytes_eq}
 use Rattle.hex.specs.Hex.{decode_of, decode_sized}
 use Rattle.hex.specs.declared.error.FromHexError.{FromHexError}
-use Rattle.script_spec.specs.declared.Keyword.{Keyword}
-use Rattle.script_spec.specs.declared.Keyword.TheVariants as keyword
+use Rattle.omci_types.specs.declared.Priority.{Priority}
+use Rattle.omci_types.specs.declared.Priority.TheVariants.{Low, High}
+use Rattle.script_spec.specs.declared.TheConstants.{MAX_DIGITS}
 
 -- ---- lines
 
@@ -42,18 +43,18 @@ unfoldable pub words_of : List ℕ → List (List ℕ)
 words_of [] = [] ∷ []
 words_of (byte ∷ rest) = words_with byte (words_of rest)
 
--- the keyword that a word is
-unfoldable pub keyword_of : List ℕ → Option Keyword
-keyword_of word =
-    if bytes_eq word (codes "probe") then Some keyword.Probe
-    else if bytes_eq word (codes "get") then Some keyword.Get
-    else if bytes_eq word (codes "create") then Some keyword.Create
-    else if bytes_eq word (codes "set") then Some keyword.Set
-    else if bytes_eq word (codes "delete") then Some keyword.Delete
-    else if bytes_eq word (codes "reset") then Some keyword.Reset
-    else if bytes_eq word (codes "deliver") then Some keyword.Deliver
-    else if bytes_eq word (codes "flow") then Some keyword.Flow
-    else None
+-- the words after those of a name, if they begin with it
+abbrev pub after_name : List (List ℕ) → List (List ℕ) → Option (List (List ℕ))
+after_name [] words = Some words
+after_name (name ∷ names) [] = None
+after_name (name ∷ names) (word ∷ words) = if bytes_eq word name then after_name names words else None
+
+-- ---- lanes
+
+-- the name of a lane
+abbrev pub lane_text : Priority → List ℕ
+lane_text Low = codes "low"
+lane_text High = codes "high"
 
 -- ---- numbers
 
@@ -65,9 +66,9 @@ value_from front (digit ∷ digits) = value_from (front * 10 + (digit - 48)) dig
 unfoldable pub decimal_value : List ℕ → ℕ
 decimal_value digits = value_from 0 digits
 
--- 1 to 18 decimal digits
+-- 1 to `MAX_DIGITS` decimal digits
 abbrev pub is_numeral : List ℕ → Bool
-is_numeral word = nat_le 1 (length word) && nat_le (length word) 18 && list_all is_ascii_digit word
+is_numeral word = nat_le 1 (length word) && nat_le (length word) MAX_DIGITS && list_all is_ascii_digit word
 
 -- a numeral of a number from `low` to `high`
 abbrev pub is_number : ℕ → ℕ → List ℕ → Bool

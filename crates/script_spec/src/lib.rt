@@ -1,16 +1,55 @@
-//! What scripts are: their lines, the events that the lines ask for, the grammar of their bytes, and the first
-//! fault of bytes that are no script. The crate has definitions and one plain type.
+//! What scripts are: one table of their lines, what each line asks for, the grammar of their bytes, and the first
+//! fault of bytes that are no script. The crate has definitions, one plain type and the limits.
 #![tactic(auto)]
 
-/// The first word of a script's line, which says what the line asks for.
+/// The kinds of a script's lines, one for each row of the table.
 #[derive(Clone, Copy, Debug, PartialEq, Eq)]
-pub enum Keyword {
+pub enum Line {
     Probe,
+    Reset,
     Get,
     Create,
     Set,
     Delete,
-    Reset,
     Deliver,
     Flow,
+    NoiseUnit,
+    NoiseOlt,
+    Tick,
+    CutUnit,
+    CutOlt,
+    StartUnit,
+    StartOlt,
 }
+
+/// The most digits of a number.
+pub const MAX_DIGITS: usize = 18;
+/// The largest number of `MAX_DIGITS` digits: the last packet that a line may name.
+pub const LAST_PACKET: u64 = 999_999_999_999_999_999;
+/// The largest class, and the largest instance.
+pub const MAX_ID: u64 = 65_535;
+/// The largest mask.
+pub const MAX_MASK: u64 = 65_535;
+/// The most bytes of values that a create has.
+pub const MAX_CREATE: usize = 32;
+/// The most bytes of values that a set has.
+pub const MAX_SET: usize = 30;
+/// The most packets that one line lets flow.
+pub const MAX_FLOW: u64 = 65_536;
+/// The most bytes of a line's noise.
+pub const MAX_NOISE: usize = 4_096;
+/// The last number of a lane.
+pub const LAST_NUMBER: u64 = 32_767;
+/// The most bytes that an image slot has room for.
+pub const MAX_ROOM: u64 = 1_048_576;
+
+/// The reason of a word that is unknown, missing or one too many.
+pub const WORD_FAULT: u8 = 1;
+/// The reason of a number that is malformed or out of range.
+pub const NUMBER_FAULT: u8 = 2;
+/// The reason of hex that is malformed or of a length that isn't allowed.
+pub const HEX_FAULT: u8 = 3;
+/// The reason of a header that is missing or has any fault.
+pub const HEADER_FAULT: u8 = 4;
+/// The reason of noise that decodes as a frame.
+pub const NOISE_FAULT: u8 = 5;

@@ -1,7 +1,6 @@
 -- The unit: its database, and for each priority the reply that it gave last.
-use Rattle.std.specs.Prelude.{ℕ, ◌+◌, ◌-◌, ◌/◌, ◌==◌, Bool, true, false, if◌then◌else◌, nat_lt, List, [], ◌∷◌, ◌++◌, replicate, Option, Some, None, Result, Ok, Err}
+use Rattle.std.specs.Prelude.{ℕ, ◌-◌, ◌/◌, ◌==◌, Bool, true, false, List, [], ◌∷◌, replicate, Option, Some, None, Result, Ok, Err}
 use Rattle.omci_types.specs.declared.Code.{Code}
-use Rattle.omci_types.specs.declared.EntityId.{EntityId}
 use Rattle.omci_types.specs.declared.Frame.{Frame}
 use Rattle.omci_types.specs.declared.Software.{Software}
 use Rattle.message_spec.specs.declared.Message.{Message}
@@ -16,18 +15,17 @@ use Rattle.message_spec.specs.Reading.{plain, message_of}
 use Rattle.frame_spec.specs.Baseline.{spelling, packet_frame}
 use Rattle.mib_spec.specs.Database.{Database, first}
 use Rattle.mib_spec.specs.Requests.{created, deleted, set_done, got, reset_code, reset, changed_by}
-use Rattle.unit_spec.specs.declared.Kept.{Kept}
+use Rattle.retry_spec.specs.Kept.{Kept, nothing_kept, kept_for, kept_with}
 use Rattle.unit_spec.specs.declared.Did.{Did}
 use Rattle.unit_spec.specs.declared.Did.TheVariants as did
 
 pub record Onu : Type 0 where
   pub database : Database
-  pub low : Option Kept
-  pub high : Option Kept
+  pub kept : Kept
 
 -- a unit that starts: the first database, and nothing kept
 unfoldable pub onu_started : Software → Onu
-onu_started software = record { database = first software; low = None; high = None }
+onu_started software = record { database = first software; kept = nothing_kept }
 
 -- what a packet comes to: the unit after it, what it did, and its reply, which is empty where it gave none
 pub record Reception : Type 0 where
@@ -38,88 +36,75 @@ pub record Reception : Type 0 where
 abbrev pub dropped : Onu → Reception
 dropped u = record { unit = u; did = did.Dropped; reply = [] }
 
--- what carrying a request out comes to: the response's frame, and the database after it
+-- ---- a request is carried out
+
+-- what carrying a request out comes to: the response's frame, and the unit after it
 pub record Answer : Type 0 where
   pub reply : Frame
-  pub database : Database
+  pub unit : Onu
 
 -- the response to a request, under its TCI and for its entity
-abbrev pub answered : Frame → Response → Database → Answer
-answered f response database = record { reply = plain (Answered f.tci f.entity response); database = database }
+abbrev pub answered : Frame → Response → Onu → Answer
+answered f response u = record { reply = plain (Answered f.tci f.entity response); unit = u }
+
+abbrev pub with_database : Database → Onu → Onu
+with_database db u = record u { database = db }
 
 -- A request of a type that the unit doesn't carry out: the same type with AK in place of AR, and the result 2. Nothing
 -- changes.
-abbrev pub not_supported : Frame → Database → Answer
-not_supported f database =
+abbrev pub not_supported : Frame → Onu → Answer
+not_supported f u =
     record {
       reply = record { tci = f.tci; kind = f.kind - 32; entity = f.entity; contents = 2 ∷ replicate 31 0 };
-      database = database;
+      unit = u;
     }
 
 abbrev pub code : ℕ → Code
 code number = record { 0 = number }
 
 -- the requests that the unit carries out
-unfoldable pub answer : Frame → Request → Database → Answer
-answer f (request.Create values) db =
-    let o = created f.entity values db in answered f (response.Create (code o.0) 0) o.1
-answer f request.Delete db =
-    let o = deleted f.entity db in answered f (response.Delete (code o.0)) o.1
-answer f (request.Set mask values) db =
-    let o = set_done f.entity mask values db in
-    answered f (response.Set (code o.code) o.unsupported o.failed) o.database
-answer f (request.Get mask) db =
-    let o = got f.entity mask db in
-    answered f (response.Get (code o.code) o.mask o.values o.unsupported 0) db
-answer f request.Reset db =
-    answered f (response.Reset (code (reset_code f.entity))) (changed_by (reset_code f.entity) (reset db) db)
-answer f (request.Alarms mode) db = not_supported f db
-answer f (request.AlarmsNext number) db = not_supported f db
-answer f request.Upload db = not_supported f db
-answer f (request.UploadNext number) db = not_supported f db
-answer f (request.Start window size targets target) db = not_supported f db
-answer f (request.Section number bytes last) db = not_supported f db
-answer f (request.End crc size targets target) db = not_supported f db
-answer f (request.Activate flags) db = not_supported f db
-answer f request.Commit db = not_supported f db
-answer f (request.Reboot flags) db = not_supported f db
+unfoldable pub answer : Frame → Request → Onu → Answer
+answer f (request.Create values) u =
+    let o = created f.entity values u.database in answered f (response.Create (code o.0) 0) (with_database o.1 u)
+answer f request.Delete u =
+    let o = deleted f.entity u.database in answered f (response.Delete (code o.0)) (with_database o.1 u)
+answer f (request.Set mask values) u =
+    let o = set_done f.entity mask values u.database in
+    answered f (response.Set (code o.code) o.unsupported o.failed) (with_database o.database u)
+answer f (request.Get mask) u =
+    let o = got f.entity mask u.database in
+    answered f (response.Get (code o.code) o.mask o.values o.unsupported 0) u
+answer f request.Reset u =
+    answered f (response.Reset (code (reset_code f.entity))) (with_database (changed_by (reset_code f.entity) (reset u.database) u.database) u)
+answer f (request.Alarms mode) u = not_supported f u
+answer f (request.AlarmsNext number) u = not_supported f u
+answer f request.Upload u = not_supported f u
+answer f (request.UploadNext number) u = not_supported f u
+answer f (request.Start window size targets target) u = not_supported f u
+answer f (request.Section number bytes last) u = not_supported f u
+answer f (request.End crc size targets target) u = not_supported f u
+answer f (request.Activate flags) u = not_supported f u
+answer f request.Commit u = not_supported f u
+answer f (request.Reboot flags) u = not_supported f u
 
--- a TCI whose top bit is set is of high priority
-abbrev pub is_low : ℕ → Bool
-is_low tci = nat_lt tci 32768
+-- ---- a request comes
 
-abbrev pub kept_of : ℕ → Onu → Option Kept
-kept_of tci u = if is_low tci then u.low else u.high
-
--- the unit keeps a reply in the priority of its TCI, in place of the one before
-abbrev pub keeps : Kept → Database → Onu → Onu
-keeps k database u =
+-- a request was carried out, and its reply is kept under its TCI
+abbrev pub carried : ℕ → Answer → Reception
+carried tci a =
     record {
-      database = database;
-      low = if is_low k.tci then Some k else u.low;
-      high = if is_low k.tci then u.high else Some k;
-    }
-
-abbrev pub found : ℕ → Option Kept → Option (List ℕ)
-found tci None = None
-found tci (Some k) = if k.tci == tci then Some k.reply else None
-
--- a request is carried out, and its reply is kept
-abbrev pub carried : Frame → Answer → Onu → Reception
-carried f a u =
-    record {
-      unit = keeps (record { tci = f.tci; reply = spelling a.reply }) a.database u;
+      unit = record a.unit { kept = kept_with tci (spelling a.reply) a.unit.kept };
       did = did.Carried;
       reply = spelling a.reply;
     }
 
 -- a request that comes again under the kept TCI of its priority is answered by the kept reply, and not carried out
-abbrev pub unless_found : Option (List ℕ) → Frame → Answer → Onu → Reception
-unless_found (Some reply) f a u = record { unit = u; did = did.Kept; reply = reply }
-unless_found None f a u = carried f a u
+abbrev pub unless_kept : Option (List ℕ) → ℕ → Answer → Onu → Reception
+unless_kept (Some reply) tci a u = record { unit = u; did = did.Kept; reply = reply }
+unless_kept None tci a u = carried tci a
 
 unfoldable pub asked : Frame → Answer → Onu → Reception
-asked f a u = unless_found (found f.tci (kept_of f.tci u)) f a u
+asked f a u = unless_kept (kept_for f.tci u.kept) f.tci a u
 
 -- a section that isn't its window's last asks for no reply
 abbrev pub asks_nothing : Request → Bool
@@ -128,14 +113,14 @@ asks_nothing _ = false
 
 abbrev pub unless_quiet : Bool → Frame → Request → Onu → Reception
 unless_quiet true f r u = dropped u
-unless_quiet false f r u = asked f (answer f r u.database) u
+unless_quiet false f r u = asked f (answer f r u) u
 
 -- whether a type byte is that of a request: AR alone
 abbrev pub has_request_bits : ℕ → Bool
 has_request_bits kind = kind / 32 == 2
 
 abbrev pub if_request : Bool → Frame → Onu → Reception
-if_request true f u = asked f (not_supported f u.database) u
+if_request true f u = asked f (not_supported f u) u
 if_request false f u = dropped u
 
 -- a request is answered; an unknown type counts as one where its bits are those of a request; nothing else is for the unit

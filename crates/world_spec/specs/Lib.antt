@@ -1,4 +1,5 @@
-pub mod Link
+pub mod Happenings
+pub mod Ends
 pub mod Nodes
 pub mod Trace
 pub mod History

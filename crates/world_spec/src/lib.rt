@@ -1,28 +1,36 @@
-//! The link between the two ends, the machine of both ends over it, its trace, and its history. Plain types and
-//! definitions alone.
+//! The machine of both ends over the link, its trace, and its history. Plain types and definitions alone.
 #![tactic(auto)]
 
-/// The way of a packet over the link.
-#[derive(Clone, Copy, Debug, PartialEq, Eq)]
-pub enum Direction {
-    /// From the manager to the unit.
-    Down,
-    /// From the unit to the manager.
-    Up,
-}
+use link_spec::Direction;
+use manager_spec::{Refusal, Report};
+use omci_types::{Frame, Software};
 
-/// A packet on the link: a baseline frame of 48 bytes (ITU-T G.988, clause 11.2).
+/// What is seen of the machine. Each is a line of the trace.
 #[derive(Clone, Copy, Debug, PartialEq, Eq)]
-pub struct Sent {
-    pub direction: Direction,
-    pub bytes: [u8; 48],
-}
-
-/// How far the deliveries of one direction have come, in numbers of packets.
-#[derive(Clone, Copy, Debug, PartialEq, Eq)]
-pub struct Way {
-    /// No packet below it is delivered any more.
-    pub floor: u64,
-    /// No packet below it is fresh.
-    pub mark: u64,
+pub enum Effect {
+    /// The unit starts its so-manieth life with this software.
+    UnitStarted {
+        life: u64,
+        software: Software,
+    },
+    /// A packet goes onto the link under that number.
+    PacketSent {
+        number: u64,
+        direction: Direction,
+        frame: Frame,
+    },
+    /// The unit carried a request out, in that life.
+    Carried {
+        life: u64,
+    },
+    /// The unit gave its kept reply again.
+    Kept,
+    /// The unit did nothing with a packet.
+    Dropped,
+    /// The manager did not submit a command.
+    Refused(Refusal),
+    /// The manager reports something.
+    Reported(Report),
+    /// The line asks for what can't happen now.
+    NotEnabled,
 }

@@ -1,0 +1,174 @@
+-- The two ends, each on or off, and what happens to them: at a submission, when a packet comes, with each second, and when the
+-- power goes or comes back. None of this knows the link.
+use Rattle.std.specs.Prelude.{ℕ, ◌+◌, ◌-◌, Bool, true, false, List, [], ◌∷◌, ◌++◌, length, map, take, replicate, Option, Some, None, Result, Ok, Err}
+use Rattle.std.specs.List.{flat_map}
+use Rattle.omci_types.specs.declared.Priority.{Priority}
+use Rattle.omci_types.specs.declared.SlotView.{SlotView}
+use Rattle.omci_types.specs.declared.Software.{Software}
+use Rattle.frame_spec.specs.Checksum.{crc}
+use Rattle.script_spec.specs.Script.{Header}
+use Rattle.link_spec.specs.declared.Direction.{Direction}
+use Rattle.link_spec.specs.declared.Direction.TheVariants.{Down, Up}
+use Rattle.link_spec.specs.Link.{Sent}
+use Rattle.unit_spec.specs.declared.Did.{Did}
+use Rattle.unit_spec.specs.declared.Did.TheVariants as did
+use Rattle.unit_spec.specs.Onu.{Onu, Reception, onu_started, onu_received}
+use Rattle.manager_spec.specs.declared.Refusal.{Refusal}
+use Rattle.manager_spec.specs.Manager.{Manager, Outcome, Sending, manager_started, after_packet, after_tick}
+use Rattle.world_spec.specs.Happenings.{Happening, OfLane, OfArrival, UnitStarted, ManagerStarted, PacketCame, PacketSent, UnitCarried, UnitKept, UnitDropped, CommandDrawn, Reported, Refused, NotEnabled}
+
+-- how many lines of the script are done, how many lives the unit has had, the software in its slots, and the ends that are on
+pub record Ends : Type 0 where
+  pub event : ℕ
+  pub lives : ℕ
+  pub software : Software
+  pub unit : Option Onu
+  pub manager : Option Manager
+
+-- the ends after a step, and what happened in it
+pub record Step : Type 0 where
+  pub ends : Ends
+  pub happenings : List Happening
+
+-- ---- how they begin
+
+-- the bytes, filled with zeros up to a width
+abbrev pub filled : ℕ → List ℕ → List ℕ
+filled width bytes = bytes ++ replicate (width - length bytes) 0
+
+-- what is known of an image
+abbrev pub view_of : List ℕ → SlotView
+view_of image = record { length = length image; crc = crc image; version = take 14 (filled 14 image) }
+
+-- the factory's image stands in slot 0, committed and active, and slot 1 isn't valid
+abbrev pub factory_software : List ℕ → Software
+factory_software image = record { first = Some (view_of image); second = None; committed = 0; active = 0 }
+
+-- before the first line both ends have just started
+abbrev pub first_ends : Header → Ends
+first_ends h =
+    record {
+      event = 0;
+      lives = 1;
+      software = factory_software h.factory;
+      unit = Some (onu_started (factory_software h.factory));
+      manager = Some (manager_started h.low h.high);
+    }
+
+-- ---- steps
+
+abbrev pub still : Ends → Step
+still e = record { ends = e; happenings = [] }
+
+abbrev pub not_enabled : Ends → Step
+not_enabled e = record { ends = e; happenings = NotEnabled ∷ [] }
+
+-- these things happen first
+abbrev pub preceded : List Happening → Step → Step
+preceded first s = record { ends = s.ends; happenings = first ++ s.happenings }
+
+-- ---- the manager
+
+abbrev pub if_drawn : Bool → Priority → List Happening
+if_drawn true lane = CommandDrawn lane ∷ []
+if_drawn false lane = []
+
+abbrev pub goes_down : Priority → List ℕ → Happening
+goes_down lane bytes = PacketSent (OfLane lane) (record { direction = Down; bytes = bytes })
+
+-- a command is drawn, or sent again
+abbrev pub sends : Sending → List Happening
+sends s = if_drawn s.drawn s.lane ++ map (goes_down s.lane) s.packets
+
+-- the manager's reports are taken out, and then its packets go onto the link
+abbrev pub manager_did : Outcome → Ends → Step
+manager_did o e =
+    record {
+      ends = record e { manager = Some (record o.manager { reports = [] }) };
+      happenings = map Reported o.manager.reports ++ flat_map sends o.sendings;
+    }
+
+abbrev pub submitted : Result Outcome Refusal → Ends → Step
+submitted (Ok o) e = manager_did o e
+submitted (Err refusal) e = record { ends = e; happenings = Refused refusal ∷ [] }
+
+-- a submission to a manager that is on
+abbrev pub submission : (Manager → Result Outcome Refusal) → Option Manager → Ends → Step
+submission call None e = not_enabled e
+submission call (Some m) e = submitted (call m) e
+
+abbrev pub manager_got : List Happening → List ℕ → Option Manager → Ends → Step
+manager_got first bytes None e = not_enabled e
+manager_got first bytes (Some m) e = preceded first (manager_did (after_packet bytes m) e)
+
+abbrev pub manager_ticks : Option Manager → Ends → Step
+manager_ticks None e = still e
+manager_ticks (Some m) e = manager_did (after_tick m) e
+
+-- ---- the unit
+
+abbrev pub goes_up : List ℕ → Happening
+goes_up bytes = PacketSent OfArrival (record { direction = Up; bytes = bytes })
+
+-- what the unit did with what came, and its reply
+abbrev pub unit_deed : Did → List ℕ → Onu → ℕ → List Happening
+unit_deed did.Dropped reply before life = UnitDropped ∷ []
+unit_deed did.Kept reply before life = UnitKept ∷ goes_up reply ∷ []
+unit_deed did.Carried reply before life = UnitCarried life reply before.database ∷ goes_up reply ∷ []
+
+abbrev pub unit_did : Reception → Onu → Ends → Step
+unit_did r before e =
+    record {
+      ends = record e { unit = Some r.unit };
+      happenings = unit_deed r.did r.reply before e.lives;
+    }
+
+abbrev pub unit_got : List Happening → List ℕ → Option Onu → Ends → Step
+unit_got first bytes None e = not_enabled e
+unit_got first bytes (Some u) e = preceded first (unit_did (onu_received bytes u) u e)
+
+-- ---- a packet comes to its end, or noise does
+
+abbrev pub arrives_at : Direction → List Happening → List ℕ → Ends → Step
+arrives_at Down first bytes e = unit_got first bytes e.unit e
+arrives_at Up first bytes e = manager_got first bytes e.manager e
+
+-- the link delivers that packet
+unfoldable pub arrives : ℕ → Sent → Ends → Step
+arrives number s e = arrives_at s.direction (PacketCame number s ∷ []) s.bytes e
+
+-- bytes come that nobody sent
+unfoldable pub noise : Direction → List ℕ → Ends → Step
+noise direction bytes e = arrives_at direction [] bytes e
+
+-- ---- a second passes
+
+unfoldable pub second : Ends → Step
+second e = manager_ticks e.manager e
+
+-- ---- power
+
+abbrev pub cut_unit : Option Onu → Ends → Step
+cut_unit None e = not_enabled e
+cut_unit (Some u) e = still (record e { unit = None })
+
+abbrev pub cut_manager : Option Manager → Ends → Step
+cut_manager None e = not_enabled e
+cut_manager (Some m) e = still (record e { manager = None })
+
+-- the unit's next life
+abbrev pub start_unit : Option Onu → Ends → Step
+start_unit None e =
+    record {
+      ends = record e { lives = e.lives + 1; unit = Some (onu_started e.software) };
+      happenings = UnitStarted (e.lives + 1) e.software ∷ [];
+    }
+start_unit (Some u) e = not_enabled e
+
+abbrev pub start_manager : (low high : ℕ) → Option Manager → Ends → Step
+start_manager low high None e =
+    record {
+      ends = record e { manager = Some (manager_started low high) };
+      happenings = ManagerStarted ∷ [];
+    }
+start_manager low high (Some m) e = not_enabled e
