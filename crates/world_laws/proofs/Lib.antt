@@ -1,9 +1,4 @@
-mod Rows
-mod Packets
+mod Tcis
+mod Reading
 mod Unit
 mod Manager
-mod Phases
-mod Moves
-pub mod Runs
-mod Following
-mod Entries
