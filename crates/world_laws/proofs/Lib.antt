@@ -2,3 +2,5 @@ mod Tcis
 mod Reading
 mod Unit
 mod Manager
+mod Likeness
+mod Sending
