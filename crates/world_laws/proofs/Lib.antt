@@ -4,3 +4,4 @@ mod Unit
 mod Manager
 mod Likeness
 mod Sending
+mod Ticks

@@ -10,6 +10,7 @@ use Rattle.link_spec.specs.Link.{Sent, Link, Ways, way_in}
 use Rattle.retry_spec.specs.Kept.{Reply, Kept, kept_in}
 use Rattle.lane_spec.specs.Command.{command_packets}
 use Rattle.lane_spec.specs.Lane.{Lane, Waiting}
+use Rattle.manager_spec.specs.declared.Report.{Report}
 use Rattle.manager_spec.specs.Manager.{Manager, lane_in, with_lane}
 use Rattle.unit_spec.specs.Onu.{Onu}
 use Rattle.history_spec.specs.History.{Entry}
@@ -222,3 +223,22 @@ one_lane High t u m x v p h same k = record {
   is_low = subst (λ n. IsLaneOf Low n m.low p.low) (sym (same Low (λ e. cc))) h.is_low;
   is_high = k;
 }
+
+pub same_manager : (l : Priority) (m : Manager) → with_lane l (lane_in l m) m ≡ m
+same_manager Low m = refl
+same_manager High m = refl
+
+-- one lane of the manager has changed, and nothing of the channel
+pub like_one_lane : (l : Priority) (link : Link) (lives : ℕ) (unit : Option Onu) (m : Manager) (x : Lane) (t : Told) (p : Channel)
+    → Like link lives unit (Some m) t p → IsLaneOf l (drawn_in l t) x (lane_view l p).lane → Like link lives unit (Some (with_lane l x m)) t p
+like_one_lane l link lives unit m x t p h k =
+    like_managed link lives unit (with_lane l x m) t p (like_unmanaged link lives unit (Some m) t p h)
+      (subst (λ q. IsManager t.low t.high (with_lane l x m) q.low q.high) (same_view l p)
+        (one_lane l t t m x (lane_view l p) p (h.manager_is m refl) (λ k ne. refl) k))
+
+-- the reports of a manager don't matter
+pub like_reports : (reports : List Report) (link : Link) (lives : ℕ) (unit : Option Onu) (m : Manager) (t : Told) (p : Channel)
+    → Like link lives unit (Some m) t p → Like link lives unit (Some (record m { reports = reports })) t p
+like_reports reports link lives unit m t p h =
+    like_managed link lives unit _ t p (like_unmanaged link lives unit (Some m) t p h)
+      (let k = h.manager_is m refl in record { is_low = k.is_low; is_high = k.is_high })

@@ -24,7 +24,7 @@ use Rattle.world_laws.proofs.Likeness.{tci_at, IsPacket, ArePackets, one_more, A
 
 -- ---- the packets of a command
 
-abbrev HaveTci : ℕ → List (List ℕ) → Type 0
+abbrev pub HaveTci : ℕ → List (List ℕ) → Type 0
 HaveTci tci [] = Unit {0}
 HaveTci tci (bytes ∷ rest) = (packet_tci bytes ≡ tci) × HaveTci tci rest
 
@@ -56,7 +56,7 @@ sends_like High tr (x ∷ ps) link lives unit manager t v p tcis name h =
       })
 
 -- and leave alone what the lanes drew
-lasts_stay : (l k : Priority) (ps : List (List ℕ)) (t : Told) → drawn_in k (tell_all (map (goes_down l) ps) t) ≡ drawn_in k t
+pub lasts_stay : (l k : Priority) (ps : List (List ℕ)) (t : Told) → drawn_in k (tell_all (map (goes_down l) ps) t) ≡ drawn_in k t
 lasts_stay l k [] t = refl
 lasts_stay Low k (x ∷ ps) t = lasts_stay Low k ps (record t { names = t.names ++ t.low ∷ [] }) ∙ again k
   where
@@ -107,10 +107,10 @@ like_counted High link lives unit t count o v p h = record {
   lives_are = h.lives_are; drawn = h.drawn; history = h.history; unit_is = h.unit_is; manager_is = λ m e. absurd (cc);
 }
 
-abbrev sent_view : Priority → Outstanding → View → View
+abbrev pub sent_view : Priority → Outstanding → View → View
 sent_view l o v = with_sent (length o.transaction.packets) o (with_requests l o.transaction o.transaction.packets v)
 
-sent_like : (l : Priority) (o : Outstanding) (link : Link) (lives : ℕ) (unit : Option Onu) (t : Told) (v : View) (p : Channel)
+pub sent_like : (l : Priority) (o : Outstanding) (link : Link) (lives : ℕ) (unit : Option Onu) (t : Told) (v : View) (p : Channel)
     → HaveTci (tci_at l o.transaction.place) o.transaction.packets → drawn_in l t ≡ o.transaction.id → Like link lives unit None t (with_lane_view l v p)
     → Like (link_after (map (goes_down l) o.transaction.packets) link) lives unit None (tell_all (map (goes_down l) o.transaction.packets) t) (with_lane_view l (sent_view l o v) p)
 sent_like l o link lives unit t v p tcis name h =
@@ -118,7 +118,7 @@ sent_like l o link lives unit t v p tcis name h =
       (sends_like l o.transaction o.transaction.packets link lives unit None t v p tcis name h)
 
 -- the lane after it
-sent_lane : (l : Priority) (last : ℕ) (m : Lane) (o : Outstanding) (v : View)
+pub sent_lane : (l : Priority) (last : ℕ) (m : Lane) (o : Outstanding) (v : View)
     → IsLane l last m v.lane.proved v.lane.place (Some (record o { sent = o.sent + length o.transaction.packets }))
     → IsLaneOf l last m (sent_view l o v).lane
 sent_lane l last m o v h =
