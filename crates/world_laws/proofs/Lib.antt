@@ -5,3 +5,4 @@ mod Manager
 mod Likeness
 mod Sending
 mod Ticks
+mod Turns

@@ -117,7 +117,8 @@ pub record IsManager (last_low last_high : ℕ) (m : Manager) (low high : LaneSt
 
 abbrev pub IsKept : Priority → Option Reply → Option KeptReply → Type 0
 IsKept l None None = Unit {0}
-IsKept l (Some r) (Some k) = (r.tci ≡ tci_at l k.transaction.place) × (r.packet ≡ k.reply)
+IsKept l (Some r) (Some k) =
+    (r.tci ≡ tci_at l k.transaction.place) × (r.packet ≡ k.reply) × (packet_tci r.packet ≡ r.tci)
 IsKept l None (Some k) = ⊥
 IsKept l (Some r) None = ⊥
 

@@ -28,7 +28,7 @@ send_goes : (l : Priority) (p : Channel) (o : Outstanding) → (lane_view l p).l
     → after_move (Send l) p ≡ with_lane_view l (sent_view l o (lane_view l p)) p
 send_goes l p o w = ap (λ z. with_lane_view l (send_if l (lane_view l p) z) p) w
 
-append_nothing : {A : Type 0} (xs : List A) → xs ++ [] ≡ xs
+pub append_nothing : {A : Type 0} (xs : List A) → xs ++ [] ≡ xs
 append_nothing [] = refl
 append_nothing (x ∷ xs) = ap (λ ys. x ∷ ys) (append_nothing xs)
 
