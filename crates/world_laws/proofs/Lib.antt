@@ -6,3 +6,4 @@ mod Likeness
 mod Sending
 mod Ticks
 mod Turns
+mod Arrivals
