@@ -7,3 +7,4 @@ mod Sending
 mod Ticks
 mod Turns
 mod Arrivals
+mod Taking
