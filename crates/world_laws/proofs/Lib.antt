@@ -8,3 +8,4 @@ mod Ticks
 mod Turns
 mod Arrivals
 mod Taking
+mod Lines
