@@ -9,3 +9,4 @@ mod Turns
 mod Arrivals
 mod Taking
 mod Lines
+pub mod Runs
