@@ -1,4 +1,5 @@
--- Eight bytes at once: the register is added to the first four, and each byte then leaves what it leaves with those after it as zeros.
+-- Eight bytes at once: the register is added to the first four, and each byte then leaves what it
+-- leaves with those after it as zeros.
 use Rattle.std.proofs.Common.{◌≡◌, ℕ, ◌*◌, ◌/◌, ◌%◌, ◌^◌, List, [], ◌∷◌, ◌++◌, length, get_or, replicate, refl, ap, sym, ◌∙◌, arith}
 use Rattle.std.specs.Prelude.{bit_xor}
 use Rattle.frame_spec.specs.Checksum.{bits_of, add_to_front, message_bits}

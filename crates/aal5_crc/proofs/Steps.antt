@@ -1,4 +1,5 @@
--- The division's remainder of a message is a register of 32 bits that takes the message's bits one by one.
+-- The division's remainder of a message is a register of 32 bits that takes the message's bits one
+-- by one.
 use Rattle.std.proofs.Common.{◌≡◌, ℕ, zero, suc, ◌+◌, ◌*◌, ◌%◌, ◌≤◌, ◌<◌, List, [], ◌∷◌, ◌++◌, length, take, drop, get_or, replicate, refl, ap, sym, ◌∙◌, arith}
 use Rattle.std.proofs.lemmas.List.{length-append, append-nil, length-replicate, take_more}
 use Rattle.std.proofs.lemmas.Grind.{flat_map-append}
@@ -80,7 +81,8 @@ pub add-zero_register : (register : List ℕ) → IsBits register → length reg
 unfolding zero_register
 add-zero_register register are whole = register-zeros register 32 are whole
 
--- What the division makes of bits and a tail is the sum of what the bits leave in a register of zeros and of the tail.
+-- What the division makes of bits and a tail is the sum of what the bits leave in a register of
+-- zeros and of the tail.
 pub divide-tail : (bits tail : List ℕ) → IsBits bits → IsBits tail → 32 ≤ length tail → divide (length bits) (bits ++ tail) ≡ add_to_front (after_bits zero_register bits) tail
 divide-tail bits tail are tail_are long =
     ap (λ (l : List ℕ). divide (length bits) l) (sym (zero_register-add (bits ++ tail) (IsBits-append bits tail are tail_are)))

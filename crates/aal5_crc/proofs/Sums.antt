@@ -55,7 +55,8 @@ after_bits-zero_register register bits register_are are whole long =
     ∙ divide-register zeros added zeros length-zero_register added_are IsBits-zero_register long_zeros
     ∙ other
 
--- What bits leave, with others after them, is what they leave with zeros after them and what the others leave, added.
+-- What bits leave, with others after them, is what they leave with zeros after them and what the
+-- others leave, added.
 pub after_bits-apart : (bits others : List ℕ) (width : ℕ) → IsBits others → width ≡ length others → after_bits (after_bits zero_register bits) others ≡ add_to_front (after_bits (after_bits zero_register bits) (replicate width 0)) (after_bits zero_register others)
 after_bits-apart bits others width are same =
     let register = after_bits zero_register bits in

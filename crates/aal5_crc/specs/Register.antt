@@ -1,5 +1,5 @@
--- A register of 32 bits that takes the message's bits one by one, and the table that takes a byte at once, also with zero bytes after it.
--- The check value is defined without either.
+-- A register of 32 bits that takes the message's bits one by one, and the table that takes a byte
+-- at once, also with zero bytes after it. The check value is defined without either.
 use Rattle.std.specs.Prelude.{ℕ, ◌+◌, ◌*◌, ◌%◌, Bool, true, false, ◌&&◌, ◌==◌, List, [], ◌∷◌, ◌++◌, take, drop, replicate}
 use Rattle.frame_spec.specs.Checksum.{bits_of, number_of, without_first}
 
@@ -31,6 +31,7 @@ entries_follow before [] = true
 entries_follow [] (entry ∷ entries) = false
 entries_follow (old ∷ before) (entry ∷ entries) = (entry == number_of (after_bits (bits_of 32 old) (replicate 8 0))) && entries_follow before entries
 
--- The first 256 entries have no zero bytes, and each later one is that of 256 places before, one zero byte on.
+-- The first 256 entries have no zero bytes, and each later one is that of 256 places before, one
+-- zero byte on.
 unfoldable pub table_is_right : List ℕ → Bool
 table_is_right table = entries_are_right 0 (take 256 table) && entries_follow table (drop 256 table)

@@ -1,5 +1,6 @@
-//! The check value of ITU-T I.363.5 (AAL5): the CRC-32 of polynomial `04C11DB7` whose register begins with all ones, that takes each byte's most
-//! significant bit first, and whose result is complemented. No call takes memory.
+//! The check value of ITU-T I.363.5 (AAL5): the CRC-32 of polynomial `04C11DB7` whose register
+//! begins with all ones, that takes each byte's most significant bit first, and whose result is
+//! complemented. No call takes memory.
 #![tactic(auto)]
 
 ghost use Rattle.std.specs.Prelude.{◌≡◌, ℕ, ◌<◌, List, [], ◌++◌, length, IsTrue};
@@ -11,7 +12,8 @@ mod table;
 use std::marker::Model;
 use table::TABLE;
 
-/// A check value that is taken piece by piece: [`Crc::value`] is that of all bytes added so far, however they were cut.
+/// A check value that is taken piece by piece: [`Crc::value`] is that of all bytes added so far,
+/// however they were cut.
 #[derive(Clone, Copy, Debug, PartialEq, Eq)]
 pub struct Crc {
     register: u32,
@@ -41,7 +43,8 @@ impl Crc {
 
     /// Adds bytes at the end.
     pub fn add(&mut self, bytes: &[u8])
-        ensures value { (before : List ℕ) → self.old ≡ crc before → self.new ≡ crc (before ++ bytes.now) }
+        ensures value { (before : List ℕ) → self.old ≡ crc before →
+            self.new ≡ crc (before ++ bytes.now) }
     {
         self.register = advanced(&TABLE, self.register, bytes);
     }
@@ -89,7 +92,8 @@ fn after_rest(table: &[u32; 2048], register: u32, bytes: &[u8]) -> u32
     register
 }
 
-// The register after eight more bytes. It is added to the first four of them, and each byte then counts by itself, with those after it as zeros.
+// The register after eight more bytes. It is added to the first four of them, and each byte then
+// counts by itself, with those after it as zeros.
 fn after_block(table: &[u32; 2048], register: u32, block: &[u8]) -> u32
     requires right { IsTrue (table_is_right table.now) }
     requires whole { length block.now ≡ 8 }
@@ -122,44 +126,4 @@ fn entry(table: &[u32; 2048], zeros: usize, byte: u8) -> u32
     ensures bits { bits_of 32 result ≡ entry_bits zeros byte }
 {
     table[256 * zeros + byte as usize]
-}
-
-#[cfg(test)]
-mod tests {
-    use super::*;
-
-    // The values are those of a program that shifts one bit at a time, and of the standard's examples.
-    #[test]
-    fn gives_known_values(rt: HostRuntime) {
-        let mut image = [0u8; 63];
-        image[..4].copy_from_slice(&[0xff; 4]);
-        image[62] = 1;
-        let mut counted = [0u8; 256];
-        for place in 0..256 {
-            counted[place] = place as u8;
-        }
-        let cases: [(&[u8], u32); 8] = [
-            (&[], 0),
-            (&[0xff], 0x0000_00ff),
-            (&[0xff; 2], 0x0000_ffff),
-            (&[0xff; 4], 0xffff_ffff),
-            (&[0; 7], 0x7efb_36b9),
-            (b"123456789", 0xfc89_1918),
-            (&image, 0xfb3e_e248),
-            (&counted, 0xb6b5_ee95),
-        ];
-        for (bytes, want) in cases {
-            assert_eq!(rt; crc_of(bytes), want, "at once, {} bytes", bytes.len());
-            let mut crc = Crc::new();
-            for byte in bytes {
-                crc.add(&[*byte]);
-            }
-            assert_eq!(rt;
-                crc.value(),
-                want,
-                "one byte at a time, {} bytes",
-                bytes.len()
-            );
-        }
-    }
 }

@@ -1,6 +1,8 @@
-//! The table of the division: what each byte leaves in the register, alone and with zero bytes after it.
+//! The table of the division: what each byte leaves in the register, alone and with zero bytes
+//! after it.
 
-/// Entry `256 * zeros + byte` is the register of 32 bits that began with all zeros, after the byte and so many zero bytes.
+/// Entry `256 * zeros + byte` is the register of 32 bits that began with all zeros, after the byte
+/// and so many zero bytes.
 #[rattlefmt::skip]
 pub(crate) const TABLE: [u32; 2048] = [
     0x0000_0000, 0x04c1_1db7, 0x0982_3b6e, 0x0d43_26d9, 0x1304_76dc, 0x17c5_6b6b, 0x1a86_4db2, 0x1e47_5005,

@@ -6,7 +6,8 @@ use Rattle.std.specs.Result.{result_ok}
 use Rattle.std.specs.Str.{bytes_eq}
 use Rattle.frame_spec.specs.declared.FrameFault.{FrameFault}
 use Rattle.frame_spec.specs.declared.FrameFault.TheVariants.{Device, Short, Trailer, Check}
-use Rattle.frame_spec.specs.Baseline.{baseline_trailer, trailer_at, given_check, computed_check, frame_of, fault_of, answer_of, decoded, frame_unless, packet_frame}
+use Rattle.frame_spec.specs.declared.TheConstants.{BASELINE_TRAILER}
+use Rattle.frame_spec.specs.Baseline.{trailer_at, given_check, computed_check, frame_of, fault_of, answer_of, decoded, frame_unless, packet_frame}
 use Rattle.frame_laws.specs.Faults.{IsDeviceFault, IsShortFault, IsTrailerFault, IsCheckFault}
 use Rattle.frame_laws.proofs.Sound.{device_of}
 
@@ -56,11 +57,11 @@ device_wrong bytes known =
       | inr there ↦ and_right _ _ (not_from_true _ (eq-eqb (get_or bytes 3 0) 10 (known there)))
     ]
 
-trailer_right : (bytes : List ℕ) → not (bytes_eq (trailer_at bytes) baseline_trailer) ≡ false → trailer_at bytes ≡ baseline_trailer
-trailer_right bytes known = (bytes_eq-Decides (trailer_at bytes) baseline_trailer).0 (not-false _ known)
+trailer_right : (bytes : List ℕ) → not (bytes_eq (trailer_at bytes) BASELINE_TRAILER) ≡ false → trailer_at bytes ≡ BASELINE_TRAILER
+trailer_right bytes known = (bytes_eq-Decides (trailer_at bytes) BASELINE_TRAILER).0 (not-false _ known)
 
-trailer_wrong : (bytes : List ℕ) → trailer_at bytes ≢ baseline_trailer → not (bytes_eq (trailer_at bytes) baseline_trailer) ≡ true
-trailer_wrong bytes known = not_from_false _ (false_from_ne_true _ (λ e. known ((bytes_eq-Decides (trailer_at bytes) baseline_trailer).0 e)))
+trailer_wrong : (bytes : List ℕ) → trailer_at bytes ≢ BASELINE_TRAILER → not (bytes_eq (trailer_at bytes) BASELINE_TRAILER) ≡ true
+trailer_wrong bytes known = not_from_false _ (false_from_ne_true _ (λ e. known ((bytes_eq-Decides (trailer_at bytes) BASELINE_TRAILER).0 e)))
 
 -- ---- the faults
 
@@ -104,7 +105,7 @@ trailer_fault bytes trailer e =
       device = device_right bytes found.0 (omega arith);
       whole = whole;
       value = found.3;
-      wrong = λ same. both_ways _ (not-true _ found.2) ((bytes_eq-Decides (trailer_at bytes) baseline_trailer).1 (found.3 ∙ same));
+      wrong = λ same. both_ways _ (not-true _ found.2) ((bytes_eq-Decides (trailer_at bytes) BASELINE_TRAILER).1 (found.3 ∙ same));
     }
 
 fault_from_trailer : (bytes trailer : List ℕ) → IsTrailerFault bytes trailer → fault_of bytes ≡ Some (Trailer trailer)
@@ -134,7 +135,7 @@ unfolding fault_of
 fault_from_check bytes given computed fault =
     cond-false _ _ _ (device_wrong bytes (λ there. fault.device))
     ∙ cond-false _ _ _ (le-ltb (length bytes) 48 fault.whole)
-    ∙ cond-false _ _ _ (not_from_true _ ((bytes_eq-Decides (trailer_at bytes) baseline_trailer).1 fault.trailer))
+    ∙ cond-false _ _ _ (not_from_true _ ((bytes_eq-Decides (trailer_at bytes) BASELINE_TRAILER).1 fault.trailer))
     ∙ cond-true _ _ _ (not_from_false _ (ne_eqb (given_check bytes) (computed_check bytes) (λ same. fault.wrong (sym fault.given_value ∙ same ∙ fault.computed_value))))
     ∙ ap (λ (x : ℕ). Some (Check x (computed_check bytes))) fault.given_value
     ∙ ap (λ (x : ℕ). Some (Check given x)) fault.computed_value

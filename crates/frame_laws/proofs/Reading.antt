@@ -7,7 +7,8 @@ use Rattle.std.specs.Int.{to_be_bytes, bytes_high_first, byte_at, w32}
 use Rattle.omci_types.specs.declared.Frame.{Frame}
 use Rattle.frame_spec.specs.declared.FrameFault.{FrameFault}
 use Rattle.frame_spec.specs.Checksum.{crc}
-use Rattle.frame_spec.specs.Baseline.{IsBytes, IsFrame, Spells, baseline_trailer, checked_bytes, spelling, frame_of, fault_of, answer_of, decoded, frame_unless, packet_frame}
+use Rattle.frame_spec.specs.declared.TheConstants.{BASELINE_TRAILER}
+use Rattle.frame_spec.specs.Baseline.{IsBytes, IsFrame, Spells, checked_bytes, spelling, frame_of, fault_of, answer_of, decoded, frame_unless, packet_frame}
 use Rattle.frame_laws.proofs.Sound.{IsSound-from_none}
 use Rattle.frame_laws.proofs.Spelling.{length-spelling, Spells-frame_of, spelling-unique, is_read, is_spelled, IsFrame-frame_of}
 
@@ -107,7 +108,7 @@ IsBytes-pair a b fit_a fit_b zero = fit_a
 IsBytes-pair a b fit_a fit_b (suc zero) = fit_b
 IsBytes-pair a b fit_a fit_b (suc (suc i)) = omega arith
 
-IsBytes-trailer : IsBytes baseline_trailer
+IsBytes-trailer : IsBytes BASELINE_TRAILER
 IsBytes-trailer = IsBytes-append (0 ∷ 0 ∷ []) (0 ∷ 40 ∷ []) (IsBytes-pair 0 0 (omega arith) (omega arith)) (IsBytes-pair 0 40 (omega arith) (omega arith))
 
 pub IsBytes-spelling : (frame : Frame) → IsFrame frame → IsBytes (spelling frame)
@@ -121,5 +122,5 @@ IsBytes-spelling frame fits =
     let to_class = IsBytes-append (tci ++ kinds) class to_kinds (IsBytes-high_first 2 frame.entity.class) in
     let to_instance = IsBytes-append (tci ++ kinds ++ class) instance to_class (IsBytes-high_first 2 frame.entity.instance) in
     let to_contents = IsBytes-append (tci ++ kinds ++ class ++ instance) frame.contents to_instance fits.contents_fit in
-    let to_trailer = IsBytes-append (tci ++ kinds ++ class ++ instance ++ frame.contents) baseline_trailer to_contents IsBytes-trailer in
+    let to_trailer = IsBytes-append (tci ++ kinds ++ class ++ instance ++ frame.contents) BASELINE_TRAILER to_contents IsBytes-trailer in
     IsBytes-append (checked_bytes frame) (to_be_bytes w32 (crc (checked_bytes frame))) to_trailer (IsBytes-high_first 4 (crc (checked_bytes frame)))

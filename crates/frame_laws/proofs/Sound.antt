@@ -2,12 +2,13 @@
 use Rattle.std.proofs.Common.{◌≡◌, ℕ, ◌≤◌, Bool, true, false, cond, not, ◌&&◌, List, length, get_or, Option, Some, None, refl, ◌∙◌, arith}
 use Rattle.std.proofs.lemmas.Bool.{ltb-false, le-ltb, le-leb, eqb-true, eq-eqb, not-false, not_from_true, cond-false, and_right}
 use Rattle.std.proofs.lemmas.Slice.Eq.{bytes_eq-Decides}
-use Rattle.frame_spec.specs.Baseline.{fault_of, baseline_trailer, trailer_at, given_check, computed_check}
+use Rattle.frame_spec.specs.declared.TheConstants.{BASELINE_TRAILER}
+use Rattle.frame_spec.specs.Baseline.{fault_of, trailer_at, given_check, computed_check}
 
 pub record IsSound (bytes : List ℕ) : Type 0 where
   pub whole : 48 ≤ length bytes
   pub device : get_or bytes 3 0 ≡ 10
-  pub trailer : trailer_at bytes ≡ baseline_trailer
+  pub trailer : trailer_at bytes ≡ BASELINE_TRAILER
   pub check : given_check bytes ≡ computed_check bytes
 
 -- A test that would have given a fault has not held.
@@ -30,7 +31,7 @@ IsSound-from_none bytes none =
     record {
       whole = whole;
       device = eqb-true (get_or bytes 3 0) 10 (device_of _ _ (le-leb 4 (length bytes) (omega arith)) device.0);
-      trailer = (bytes_eq-Decides (trailer_at bytes) baseline_trailer).0 (not-false _ trailer.0);
+      trailer = (bytes_eq-Decides (trailer_at bytes) BASELINE_TRAILER).0 (not-false _ trailer.0);
       check = eqb-true _ _ (not-false _ check.0);
     }
 
@@ -39,5 +40,5 @@ unfolding fault_of
 fault_of-sound bytes sound =
     cond-false _ _ _ (and_right _ _ (not_from_true _ (eq-eqb (get_or bytes 3 0) 10 sound.device)))
     ∙ cond-false _ _ _ (le-ltb (length bytes) 48 sound.whole)
-    ∙ cond-false _ _ _ (not_from_true _ ((bytes_eq-Decides (trailer_at bytes) baseline_trailer).1 sound.trailer))
+    ∙ cond-false _ _ _ (not_from_true _ ((bytes_eq-Decides (trailer_at bytes) BASELINE_TRAILER).1 sound.trailer))
     ∙ cond-false _ _ _ (not_from_true _ (eq-eqb _ _ sound.check))

@@ -6,18 +6,19 @@ use Rattle.std.proofs.lemmas.Nat.{be_bytes_2, be_bytes_4, from_be_bytes-to_be_by
 use Rattle.std.specs.Int.{to_be_bytes, from_be_bytes, w16, w32}
 use Rattle.omci_types.specs.declared.Frame.{Frame}
 use Rattle.frame_spec.specs.Checksum.{crc}
-use Rattle.frame_spec.specs.Baseline.{IsBytes, IsFrame, Spells, baseline_trailer, checked_bytes, spelling, number_at, frame_of, trailer_at, given_check, computed_check, fault_of}
+use Rattle.frame_spec.specs.declared.TheConstants.{BASELINE_TRAILER}
+use Rattle.frame_spec.specs.Baseline.{IsBytes, IsFrame, Spells, checked_bytes, spelling, number_at, frame_of, trailer_at, given_check, computed_check, fault_of}
 use Rattle.frame_laws.proofs.Lengths.{crc-lt}
 use Rattle.frame_laws.proofs.Places.{within_front, laid_out, fields-of-front}
 use Rattle.frame_laws.proofs.Sound.{IsSound, IsSound-from_none, fault_of-sound}
 
-checked_bytes-laid_out : (frame : Frame) → checked_bytes frame ≡ laid_out (to_be_bytes w16 frame.tci) (frame.kind ∷ 10 ∷ []) (to_be_bytes w16 frame.entity.class) (to_be_bytes w16 frame.entity.instance) frame.contents baseline_trailer
+checked_bytes-laid_out : (frame : Frame) → checked_bytes frame ≡ laid_out (to_be_bytes w16 frame.tci) (frame.kind ∷ 10 ∷ []) (to_be_bytes w16 frame.entity.class) (to_be_bytes w16 frame.entity.instance) frame.contents BASELINE_TRAILER
 unfolding checked_bytes laid_out
 checked_bytes-laid_out frame = refl
 
 pub length-checked_bytes : (frame : Frame) → IsFrame frame → length (checked_bytes frame) ≡ 44
 unfolding checked_bytes
-length-checked_bytes frame fits = omega (arith, length-append frame.contents baseline_trailer, fits.contents_whole)
+length-checked_bytes frame fits = omega (arith, length-append frame.contents BASELINE_TRAILER, fits.contents_whole)
 
 pub length-spelling : (frame : Frame) → IsFrame frame → length (spelling frame) ≡ 48
 unfolding spelling
@@ -87,14 +88,14 @@ spelling-unique frame bytes spelled =
     let front : take 44 bytes ≡ checked_bytes frame = cc in
     sym (take-append-drop 44 bytes) ∙ ap (λ (l : List ℕ). l ++ drop 44 bytes) front ∙ ap (λ (l : List ℕ). checked_bytes frame ++ l) (spelled.check ∙ ap (λ (l : List ℕ). to_be_bytes w32 (crc l)) front)
 
-contents-within : (contents check : List ℕ) → length contents ≡ 32 → take 32 (contents ++ baseline_trailer ++ check) ≡ contents
+contents-within : (contents check : List ℕ) → length contents ≡ 32 → take 32 (contents ++ BASELINE_TRAILER ++ check) ≡ contents
 contents-within contents check whole =
-    ap (λ (l : List ℕ). take 32 l) (append_assoc contents baseline_trailer check) ∙ take_at contents (baseline_trailer ++ check) 32 whole
+    ap (λ (l : List ℕ). take 32 l) (append_assoc contents BASELINE_TRAILER check) ∙ take_at contents (BASELINE_TRAILER ++ check) 32 whole
 
-trailer-within : (contents check : List ℕ) → length contents ≡ 32 → take 4 (drop 32 (contents ++ baseline_trailer ++ check)) ≡ baseline_trailer
+trailer-within : (contents check : List ℕ) → length contents ≡ 32 → take 4 (drop 32 (contents ++ BASELINE_TRAILER ++ check)) ≡ BASELINE_TRAILER
 trailer-within contents check whole =
-    ap (λ (l : List ℕ). take 4 (drop 32 l)) (append_assoc contents baseline_trailer check)
-    ∙ ap (λ (l : List ℕ). take 4 l) (drop_at contents (baseline_trailer ++ check) 32 whole)
+    ap (λ (l : List ℕ). take 4 (drop 32 l)) (append_assoc contents BASELINE_TRAILER check)
+    ∙ ap (λ (l : List ℕ). take 4 l) (drop_at contents (BASELINE_TRAILER ++ check) 32 whole)
 
 -- A frame's spelling spells it.
 pub Spells-spelling : (frame : Frame) → IsFrame frame → Spells frame (spelling frame)

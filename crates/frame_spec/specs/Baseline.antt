@@ -6,6 +6,7 @@ use Rattle.std.specs.Str.{bytes_eq}
 use Rattle.omci_types.specs.declared.Frame.{Frame}
 use Rattle.frame_spec.specs.declared.FrameFault.{FrameFault}
 use Rattle.frame_spec.specs.declared.FrameFault.TheVariants.{Device, Short, Trailer, Check}
+use Rattle.frame_spec.specs.declared.TheConstants.{FRAME_BYTES, CHECKED_BYTES, CONTENTS_BYTES, BASELINE_DEVICE, BASELINE_TRAILER}
 use Rattle.frame_spec.specs.Checksum.{crc}
 
 abbrev pub IsBytes : List ℕ → Type 0
@@ -17,38 +18,30 @@ pub record IsFrame (frame : Frame) : Type 0 where
   pub kind_fits : frame.kind < 256
   pub class_fits : frame.entity.class < 2 ^ 16
   pub instance_fits : frame.entity.instance < 2 ^ 16
-  pub contents_whole : length frame.contents ≡ 32
+  pub contents_whole : length frame.contents ≡ CONTENTS_BYTES
   pub contents_fit : IsBytes frame.contents
-
--- the device identifier of the baseline message set
-abbrev pub baseline_device : ℕ
-baseline_device = 0x0A
-
--- `00 00 00 28`
-abbrev pub baseline_trailer : List ℕ
-baseline_trailer = 0 ∷ 0 ∷ 0 ∷ 0x28 ∷ []
 
 -- The frame's 48 bytes, field by field.
 pub record Spells (frame : Frame) (bytes : List ℕ) : Type 0 where
-  pub whole : length bytes ≡ 48
+  pub whole : length bytes ≡ FRAME_BYTES
   pub tci : take 2 bytes ≡ to_be_bytes w16 frame.tci
   pub kind : slice_index bytes 2 ≡ frame.kind
-  pub device : slice_index bytes 3 ≡ baseline_device
+  pub device : slice_index bytes 3 ≡ BASELINE_DEVICE
   pub class : take 2 (drop 4 bytes) ≡ to_be_bytes w16 frame.entity.class
   pub instance : take 2 (drop 6 bytes) ≡ to_be_bytes w16 frame.entity.instance
-  pub contents : take 32 (drop 8 bytes) ≡ frame.contents
-  pub trailer : take 4 (drop 40 bytes) ≡ baseline_trailer
-  pub check : drop 44 bytes ≡ to_be_bytes w32 (crc (take 44 bytes))
+  pub contents : take CONTENTS_BYTES (drop 8 bytes) ≡ frame.contents
+  pub trailer : take 4 (drop 40 bytes) ≡ BASELINE_TRAILER
+  pub check : drop CHECKED_BYTES bytes ≡ to_be_bytes w32 (crc (take CHECKED_BYTES bytes))
 
 -- the 44 bytes of a frame that its check value is taken of
 unfoldable pub checked_bytes : Frame → List ℕ
 checked_bytes frame =
     to_be_bytes w16 frame.tci
-    ++ frame.kind ∷ baseline_device ∷ []
+    ++ frame.kind ∷ BASELINE_DEVICE ∷ []
     ++ to_be_bytes w16 frame.entity.class
     ++ to_be_bytes w16 frame.entity.instance
     ++ frame.contents
-    ++ baseline_trailer
+    ++ BASELINE_TRAILER
 
 -- the one spelling of a frame
 unfoldable pub spelling : Frame → List ℕ
@@ -64,7 +57,7 @@ frame_of bytes = record {
   tci = number_at 0 bytes;
   kind = slice_index bytes 2;
   entity = record { class = number_at 4 bytes; instance = number_at 6 bytes };
-  contents = take 32 (drop 8 bytes);
+  contents = take CONTENTS_BYTES (drop 8 bytes);
 }
 
 -- bytes 41 to 44
@@ -73,18 +66,19 @@ trailer_at bytes = take 4 (drop 40 bytes)
 
 -- the check value in bytes 45 to 48
 unfoldable pub given_check : List ℕ → ℕ
-given_check bytes = from_be_bytes w32 (take 4 (drop 44 bytes))
+given_check bytes = from_be_bytes w32 (take 4 (drop CHECKED_BYTES bytes))
 
 -- the check value of bytes 1 to 44
 unfoldable pub computed_check : List ℕ → ℕ
-computed_check bytes = crc (take 44 bytes)
+computed_check bytes = crc (take CHECKED_BYTES bytes)
 
--- The first fault of the bytes, in the order in which they are tested. Bytes after the 48th don't matter.
+-- The first fault of the bytes, in the order in which they are tested. Bytes after the 48th don't
+-- matter.
 unfoldable pub fault_of : List ℕ → Option FrameFault
 fault_of bytes =
-    if nat_le 4 (length bytes) && not (slice_index bytes 3 == baseline_device) then Some (Device (slice_index bytes 3))
-    else if nat_lt (length bytes) 48 then Some (Short (length bytes))
-    else if not (bytes_eq (trailer_at bytes) baseline_trailer) then Some (Trailer (trailer_at bytes))
+    if nat_le 4 (length bytes) && not (slice_index bytes 3 == BASELINE_DEVICE) then Some (Device (slice_index bytes 3))
+    else if nat_lt (length bytes) FRAME_BYTES then Some (Short (length bytes))
+    else if not (bytes_eq (trailer_at bytes) BASELINE_TRAILER) then Some (Trailer (trailer_at bytes))
     else if not (given_check bytes == computed_check bytes) then Some (Check (given_check bytes) (computed_check bytes))
     else None
 
@@ -99,7 +93,7 @@ decoded bytes = answer_of (fault_of bytes) bytes
 
 -- the frame of a packet of so many bytes with this first fault
 unfoldable pub frame_unless : Option FrameFault → List ℕ → Option Frame
-frame_unless None bytes = if length bytes == 48 then Some (frame_of bytes) else None
+frame_unless None bytes = if length bytes == FRAME_BYTES then Some (frame_of bytes) else None
 frame_unless (Some fault) bytes = None
 
 -- The frame of a packet that is exactly one frame.

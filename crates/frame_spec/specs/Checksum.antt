@@ -1,5 +1,5 @@
--- The check value of ITU-T I.363.5 (AAL5), as that standard writes it: long division on a list of bits.
--- A bit is 0 or 1, and a list of bits has the most significant one first.
+-- The check value of ITU-T I.363.5 (AAL5), as that standard writes it: long division on a list of
+-- bits. A bit is 0 or 1, and a list of bits has the most significant one first.
 use Rattle.std.specs.Prelude.{ℕ, zero, suc, ◌+◌, ◌-◌, ◌*◌, ◌%◌, ◌^◌, List, [], ◌∷◌, ◌++◌, length, take, drop, map, replicate}
 use Rattle.std.specs.List.{flat_map}
 use Rattle.std.specs.Int.{bit_at}
@@ -31,7 +31,8 @@ add_to_front (a ∷ rest) (bit ∷ bits) = (a + bit) % 2 ∷ add_to_front rest b
 unfoldable pub generator : List ℕ
 generator = bits_of 32 0x04C11DB7
 
--- One step of the division: the first bit is dropped, and where it was 1, the generator is added to the 32 bits that follow.
+-- One step of the division: the first bit is dropped, and where it was 1, the generator is added to
+-- the 32 bits that follow.
 unfoldable pub without_first : ℕ → List ℕ → List ℕ
 without_first zero bits = bits
 without_first (suc _) bits = add_to_front generator bits
@@ -46,12 +47,14 @@ divide (suc steps) (bit ∷ bits) = divide steps (without_first bit bits)
 unfoldable pub message_bits : List ℕ → List ℕ
 message_bits bytes = flat_map (bits_of 8) bytes
 
--- The list that is divided: the message's bits and 32 zero bits after them, with the first 32 of all these bits inverted.
+-- The list that is divided: the message's bits and 32 zero bits after them, with the first 32 of
+-- all these bits inverted.
 unfoldable pub dividend : List ℕ → List ℕ
 dividend bytes =
     let bits = message_bits bytes ++ replicate 32 0 in
     inverted (take 32 bits) ++ drop 32 bits
 
--- The check value: a step of the division for each bit of the message leaves 32 bits, whose complement it is.
+-- The check value: a step of the division for each bit of the message leaves 32 bits, whose
+-- complement it is.
 unfoldable pub crc : List ℕ → ℕ
 crc bytes = number_of (inverted (divide (8 * length bytes) (dividend bytes)))

@@ -1,2 +1,4 @@
 pub mod Checksum
+pub mod Widths
+pub mod Entities
 pub mod Baseline

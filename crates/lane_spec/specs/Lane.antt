@@ -1,5 +1,5 @@
 -- One lane of the manager (ITU-T G.988, clause 11.2.2): at most one command outstanding, sent again when its time is over.
-use Rattle.std.specs.Prelude.{ℕ, ◌+◌, ◌||◌, Bool, true, false, nat_le, nat_lt, Option, Some, None}
+use Rattle.std.specs.Prelude.{ℕ, ◌+◌, ◌||◌, Bool, true, false, nat_le, nat_lt, List, [], Option, Some, None}
 use Rattle.omci_types.specs.declared.Frame.{Frame}
 use Rattle.omci_types.specs.declared.Priority.{Priority}
 use Rattle.omci_types.specs.declared.Priority.TheVariants.{Low, High}
@@ -7,7 +7,7 @@ use Rattle.tci_spec.specs.Tci.{number_after, tci_of}
 use Rattle.lane_spec.specs.declared.LaneTick.{LaneTick}
 use Rattle.lane_spec.specs.declared.LaneTick.TheVariants.{Quiet, Repeat, GaveUp}
 use Rattle.lane_spec.specs.declared.TheConstants.{LOW_TIMEOUT, HIGH_TIMEOUT, MOST_REPEATS}
-use Rattle.lane_spec.specs.Command.{Command, answers}
+use Rattle.lane_spec.specs.Command.{Command, command_packets, is_changing, answers}
 
 -- A command that waits for its reply: the seconds since it was last sent, and how many times it was sent again.
 pub record Waiting : Type 0 where
@@ -37,6 +37,21 @@ with_command c l =
       next = number_after l.next;
       outstanding = Some (record { tci = next_tci l; command = c; ticks = 0; repeats = 0 });
     }
+
+-- whether the command that waits is a probe
+abbrev pub is_probing : Option Waiting → Bool
+is_probing None = false
+is_probing (Some w) = w.command.probe
+
+-- whether the command that waits changes what the unit holds or runs
+abbrev pub is_changed_by : Option Waiting → Bool
+is_changed_by None = false
+is_changed_by (Some w) = is_changing w.command.request
+
+-- the packets that the command that waits sends each time
+abbrev pub waiting_packets : Option Waiting → List (List ℕ)
+waiting_packets None = []
+waiting_packets (Some w) = command_packets w.tci w.command
 
 -- the seconds after which a command of the priority is sent again
 abbrev pub timeout_of : Priority → ℕ

@@ -1,5 +1,5 @@
 -- What is held of a link: how many packets were sent, the last of them, and the ways. The link's answers need no more.
-use Rattle.std.specs.Prelude.{ℕ, ◌+◌, ◌-◌, Bool, if◌then◌else◌, nat_le, List, [], ◌∷◌, ◌++◌, length, slice_get, Option, None}
+use Rattle.std.specs.Prelude.{ℕ, ◌+◌, ◌-◌, Bool, if◌then◌else◌, nat_le, List, [], ◌∷◌, ◌++◌, length, slice_get, Option, Some, None}
 use Rattle.circular_buffer.specs.Buffer.{keep_last}
 use Rattle.link_spec.specs.declared.TheConstants.{WINDOW}
 use Rattle.link_spec.specs.Link.{Sent, Ways, ways_from, Link, count, allowed_one, ways_past, first_fresh}
@@ -36,6 +36,14 @@ held_allowed number h = allowed_one number (held_packet number h) h.ways h.count
 -- the packet of that number was delivered
 abbrev pub held_delivered : ℕ → Sent → Held → Held
 held_delivered number s h = record h { ways = ways_past number s h.ways }
+
+abbrev pub held_carried : ℕ → Option Sent → Held → Held
+held_carried number None h = h
+held_carried number (Some s) h = held_delivered number s h
+
+-- what is held after a delivery of that number
+unfoldable pub held_after : ℕ → Held → Held
+held_after number h = held_carried number (held_allowed number h) h
 
 -- the oldest fresh packet
 unfoldable pub held_fresh : Bool → Bool → Held → Option ℕ

@@ -48,6 +48,15 @@ abbrev pub ways_from : ℕ → Ways
 ways_from number =
     record { down_low = way_from number; down_high = way_from number; up_low = way_from number; up_high = way_from number }
 
+-- a direction, named by whether it is down
+abbrev pub direction_if : (down : Bool) → Direction
+direction_if true = Down
+direction_if false = Up
+
+abbrev pub is_down : Direction → Bool
+is_down Down = true
+is_down Up = false
+
 -- the packets of both directions, oldest first, so that a packet's number is its place
 pub record Link : Type 0 where
   pub packets : List Sent
@@ -95,6 +104,14 @@ ways_past number s w = with_way s.direction (lane_of s.bytes) (passed number (wa
 -- the packet of that number was delivered
 abbrev pub delivered_on : ℕ → Sent → Link → Link
 delivered_on number s l = record l { ways = ways_past number s l.ways }
+
+abbrev pub carried_on : ℕ → Option Sent → Link → Link
+carried_on number None l = l
+carried_on number (Some s) l = delivered_on number s l
+
+-- the link after a delivery of that number, which changes nothing where the packet may not come
+unfoldable pub link_after : ℕ → Link → Link
+link_after number l = carried_on number (allowed number l) l
 
 -- whether a packet's receiver is on
 abbrev pub is_heard : Direction → Bool → Bool → Bool

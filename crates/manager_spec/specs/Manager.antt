@@ -1,6 +1,6 @@
 -- The manager with its two lanes: one command outstanding in each at most, nothing but a probe until the lane is proved, and
 -- one change at a time.
-use Rattle.std.specs.Prelude.{ℕ, Bool, true, false, if◌then◌else◌, List, [], ◌∷◌, ◌++◌, Option, Some, None, Result, Ok, Err}
+use Rattle.std.specs.Prelude.{ℕ, Bool, true, false, if◌then◌else◌, List, [], ◌∷◌, ◌++◌, Option, Some, None}
 use Rattle.std.specs.List.{flat_map}
 use Rattle.omci_types.specs.declared.EntityId.{EntityId}
 use Rattle.omci_types.specs.declared.Frame.{Frame}
@@ -12,7 +12,7 @@ use Rattle.tci_spec.specs.Tci.{priority_of}
 use Rattle.lane_spec.specs.declared.LaneTick.{LaneTick}
 use Rattle.lane_spec.specs.declared.LaneTick.TheVariants.{Quiet, Repeat, GaveUp}
 use Rattle.lane_spec.specs.Command.{Command, probe_command, ask, command_packets, is_changing}
-use Rattle.lane_spec.specs.Lane.{Lane, Waiting, new_lane, next_tci, with_command, lane_tick, lane_reply}
+use Rattle.lane_spec.specs.Lane.{Lane, Waiting, new_lane, next_tci, with_command, lane_tick, lane_reply, is_probing, waiting_packets}
 use Rattle.manager_spec.specs.declared.Refusal.{Refusal}
 use Rattle.manager_spec.specs.declared.Refusal.TheVariants.{Unproven, Occupied, ChangeOutstanding}
 use Rattle.manager_spec.specs.declared.Report.{Report}
@@ -81,13 +81,13 @@ occupied_by (Some w) = Some (Occupied w.tci)
 abbrev pub occupied : Priority → Manager → Option Refusal
 occupied lane m = occupied_by (lane_in lane m).outstanding
 
-abbrev pub changed_by : Option Waiting → Option Refusal
-changed_by None = None
-changed_by (Some w) = if is_changing w.command.request then Some (ChangeOutstanding w.tci) else None
+abbrev pub changing_by : Option Waiting → Option Refusal
+changing_by None = None
+changing_by (Some w) = if is_changing w.command.request then Some (ChangeOutstanding w.tci) else None
 
 -- the request is a change, and one is outstanding in the other lane
 abbrev pub second_change : Request → Priority → Manager → Option Refusal
-second_change r lane m = if is_changing r then changed_by (lane_in (other_lane lane) m).outstanding else None
+second_change r lane m = if is_changing r then changing_by (lane_in (other_lane lane) m).outstanding else None
 
 -- the first of these that holds
 abbrev pub first_refusal : List (Option Refusal) → Option Refusal
@@ -95,9 +95,15 @@ first_refusal [] = None
 first_refusal (None ∷ rest) = first_refusal rest
 first_refusal (Some refusal ∷ rest) = Some refusal
 
-abbrev pub unless_refused : Option Refusal → Outcome → Result Outcome Refusal
-unless_refused None o = Ok o
-unless_refused (Some refusal) o = Err refusal
+-- what a submission comes to: an outcome, and why the command was not submitted, if it wasn't
+pub record Submission : Type 0 where
+  pub outcome : Outcome
+  pub refusal : Option Refusal
+
+-- a refused submission changes nothing and sends nothing
+abbrev pub unless_refused : Option Refusal → Outcome → Manager → Submission
+unless_refused None o m = record { outcome = o; refusal = None }
+unless_refused (Some refusal) o m = record { outcome = sends_nothing m; refusal = Some refusal }
 
 -- a command draws its lane's next number and goes out
 abbrev pub command_sent : Priority → Command → Manager → Outcome
@@ -108,25 +114,21 @@ command_sent lane c m =
     }
 
 -- a probe of a lane
-unfoldable pub after_probe : Priority → Manager → Result Outcome Refusal
-after_probe lane m = unless_refused (occupied lane m) (command_sent lane probe_command m)
+unfoldable pub after_probe : Priority → Manager → Submission
+after_probe lane m = unless_refused (occupied lane m) (command_sent lane probe_command m) m
 
 -- why a request isn't submitted
 abbrev pub submit_refusal : Priority → Request → Manager → Option Refusal
 submit_refusal lane r m = first_refusal (unproven lane m ∷ occupied lane m ∷ second_change r lane m ∷ [])
 
 -- a request for an entity
-unfoldable pub after_submit : Priority → EntityId → Request → Manager → Result Outcome Refusal
-after_submit lane entity r m = unless_refused (submit_refusal lane r m) (command_sent lane (ask entity r) m)
+unfoldable pub after_submit : Priority → EntityId → Request → Manager → Submission
+after_submit lane entity r m = unless_refused (submit_refusal lane r m) (command_sent lane (ask entity r) m) m
 
 -- ---- a packet comes
 
 abbrev pub packet_dropped : Manager → Outcome
 packet_dropped m = sends_nothing (with_report report.Dropped m)
-
-abbrev pub is_probing : Option Waiting → Bool
-is_probing None = false
-is_probing (Some w) = w.command.probe
 
 -- the reply to a probe proves its lane, whatever it says; another command's reply is handed on
 abbrev pub reply_report : Bool → Priority → Frame → Report
@@ -155,10 +157,6 @@ unfoldable pub after_packet : List ℕ → Manager → Outcome
 after_packet bytes m = for_frame (packet_frame bytes) m
 
 -- ---- a second passes
-
-abbrev pub waiting_packets : Option Waiting → List (List ℕ)
-waiting_packets None = []
-waiting_packets (Some w) = command_packets w.tci w.command
 
 abbrev pub lane_ticked : LaneTick → Priority → Lane → Manager → Outcome
 lane_ticked Quiet lane l m = sends_nothing (with_lane lane l m)

@@ -4,3 +4,4 @@ pub mod Paddings
 pub mod Rows
 pub mod Reading
 pub mod Causes
+pub mod Texts

@@ -3,7 +3,7 @@ use Rattle.std.proofs.Common.{◌≡◌, ℕ, zero, suc, ◌+◌, ◌-◌, ◌<�
 use Rattle.std.proofs.lemmas.Bool.{cases_lt}
 use Rattle.std.proofs.lemmas.Nat.{be_bytes_2, be_bytes_4}
 use Rattle.std.proofs.lemmas.List.{length-take, length-take-le, get_or-take, get_or-drop, get_or_append_left, get_or-append_right, drop_more, ext_get_or}
-use Rattle.message_spec.specs.Fields.{Value, Form, OneByte, TwoBytes, FourBytes, WindowByte, ByteRow, Field, width, place, value_at, values_at, spelled, put, filled, padding, AreBytes, AllFit}
+use Rattle.message_spec.specs.Fields.{Value, Form, OneByte, TwoBytes, FourBytes, WindowByte, ByteRow, Field, width, place, value_at, values_at, value_bytes, put, put_values, padding, AreBytes, AllFit}
 use Rattle.message_laws.specs.Padding.{IsOutside, HasZeroPadding}
 use Rattle.message_laws.proofs.Places.{AreBytes-take, AreBytes-drop}
 use Rattle.message_laws.proofs.Forms.{Ordered, length-spelled, put_length}
@@ -29,20 +29,20 @@ put_after at bytes contents i after within =
     ∙ ap (λ (n : ℕ). get_or contents n 0) there
 
 -- a byte of no field stays
-filled_outside : (fields : List Field) (values : List Value) (from : ℕ) (contents : List ℕ) (i : ℕ) → Ordered from fields → AllFit fields values → length contents ≡ 32 → IsOutside fields i → get_or (filled fields values contents) i 0 ≡ get_or contents i 0
+filled_outside : (fields : List Field) (values : List Value) (from : ℕ) (contents : List ℕ) (i : ℕ) → Ordered from fields → AllFit fields values → length contents ≡ 32 → IsOutside fields i → get_or (put_values fields values contents) i 0 ≡ get_or contents i 0
 filled_outside [] [] from contents i order fit len out = refl
 filled_outside [] (v ∷ values) from contents i order fit len out = absurd fit
 filled_outside (f ∷ fields) [] from contents i order fit len out = absurd fit
 filled_outside (f ∷ fields) (v ∷ values) from contents i order fit len out =
     let within : place f ≤ length contents = omega (arith, order.0.within) in
-    let long : length (spelled f.form v) ≡ width f.form = length-spelled f.form v fit.0 in
-    let stays : get_or (put (place f) (spelled f.form v) contents) i 0 ≡ get_or contents i 0 =
-    elim out.0 as (λ _. get_or (put (place f) (spelled f.form v) contents) i 0 ≡ get_or contents i 0) [
-      | inl before ↦ put_before (place f) (spelled f.form v) contents i before within
-      | inr after ↦ put_after (place f) (spelled f.form v) contents i (omega arith) within
+    let long : length (value_bytes f.form v) ≡ width f.form = length-spelled f.form v fit.0 in
+    let stays : get_or (put (place f) (value_bytes f.form v) contents) i 0 ≡ get_or contents i 0 =
+    elim out.0 as (λ _. get_or (put (place f) (value_bytes f.form v) contents) i 0 ≡ get_or contents i 0) [
+      | inl before ↦ put_before (place f) (value_bytes f.form v) contents i before within
+      | inr after ↦ put_after (place f) (value_bytes f.form v) contents i (omega arith) within
     ]
     in
-    filled_outside fields values (place f + width f.form) (put (place f) (spelled f.form v) contents) i order.1 fit.1 (put_length f v contents order.0.within fit.0 len) out.1
+    filled_outside fields values (place f + width f.form) (put (place f) (value_bytes f.form v) contents) i order.1 fit.1 (put_length f v contents order.0.within fit.0 len) out.1
     ∙ stays
 
 zero_there : (n i : ℕ) → ◌≡◌ {A = ℕ} (get_or (replicate n 0) i 0) 0
@@ -55,7 +55,7 @@ padding_zero : (i : ℕ) → get_or padding i 0 ≡ 0
 unfolding padding
 padding_zero i = zero_there 32 i
 
-pub filled_padding : (fields : List Field) (values : List Value) (from : ℕ) → Ordered from fields → AllFit fields values → length padding ≡ 32 → HasZeroPadding fields (filled fields values padding)
+pub filled_padding : (fields : List Field) (values : List Value) (from : ℕ) → Ordered from fields → AllFit fields values → length padding ≡ 32 → HasZeroPadding fields (put_values fields values padding)
 filled_padding fields values from order fit len at out = filled_outside fields values from padding at order fit len out ∙ padding_zero at
 
 -- ---- equal values have equal bytes
@@ -67,7 +67,7 @@ taken_length : (n at : ℕ) (contents : List ℕ) → at + n ≤ length contents
 taken_length n at contents within = simp (length-take, length-drop) (omega arith)
 
 -- the bytes of a value that was read are those that stand there
-read_is_spelled : (form : Form) (at : ℕ) (contents : List ℕ) → at + width form ≤ length contents → AreBytes contents → spelled form (value_at form at contents) ≡ take (width form) (drop at contents)
+read_is_spelled : (form : Form) (at : ℕ) (contents : List ℕ) → at + width form ≤ length contents → AreBytes contents → value_bytes form (value_at form at contents) ≡ take (width form) (drop at contents)
 read_is_spelled OneByte at contents within bytes = one_there at contents within
 read_is_spelled TwoBytes at contents within bytes =
     be_bytes_2 (take 2 (drop at contents)) _ (taken_length 2 at contents within) (AreBytes-take 2 (drop at contents) (AreBytes-drop at contents bytes)) refl
@@ -101,7 +101,7 @@ same_fields (f ∷ fields) from left right order len_left len_right bytes_left b
     let rest : values_at fields left ≡ values_at fields right = cc in
     let taken : take (width f.form) (drop (place f) left) ≡ take (width f.form) (drop (place f) right) =
     sym (read_is_spelled f.form (place f) left (omega (arith, order.0.within)) bytes_left)
-    ∙ ap (spelled f.form) first
+    ∙ ap (value_bytes f.form) first
     ∙ read_is_spelled f.form (place f) right (omega (arith, order.0.within)) bytes_right
     in
     let others = same_fields fields (place f + width f.form) left right order.1 len_left len_right bytes_left bytes_right rest i in

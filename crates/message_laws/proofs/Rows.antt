@@ -1,4 +1,5 @@
--- Each row of the table, looked up: its type bytes are found, its fields stand in order, and a message is its values.
+-- Each row of the table, looked up: its type bytes are found, its fields stand in order, and a
+-- message is its values.
 use Rattle.std.proofs.Common.{◌≡◌, ℕ, zero, suc, ◌<◌, Bool, true, false, cond, eqb, ltb, List, Result, Ok, Err, refl, ap, subst, ◌∙◌, arith, inl, inr}
 use Rattle.std.proofs.lemmas.Bool.{cases_lt, eqb-true, ltb-true}
 use Rattle.omci_types.specs.declared.EntityId.{EntityId}

@@ -10,7 +10,8 @@ pub record IsUnknownType (f : Frame) (number : ℕ) : Type 0 where
   pub is : number ≡ type_bits f.kind
   pub unknown : (t : MessageType) → type_number t ≢ number
 
--- the byte is the frame's type byte; a type of the table has its number, but no message has these bits
+-- the byte is the frame's type byte; a type of the table has its number, but no message has these
+-- bits
 pub record HasWrongBits (f : Frame) (byte : ℕ) : Type 0 where
   pub is : byte ≡ f.kind
   pub known : (t : MessageType) × (type_number t ≡ type_bits byte)

@@ -1,6 +1,9 @@
 -- A field of a message's contents: where it stands, what its bytes say, and how it is spelled.
-use Rattle.std.specs.Prelude.{◌≡◌, ℕ, zero, suc, ◌+◌, ◌-◌, ◌^◌, ◌<◌, ◌≤◌, List, [], ◌∷◌, ◌++◌, length, take, drop, slice_index, replicate}
+use Rattle.std.specs.Prelude.{◌≡◌, ℕ, zero, suc, ◌+◌, ◌-◌, ◌^◌, ◌<◌, ◌≤◌, List, [], ◌∷◌, length, take, drop, slice_index, replicate}
 use Rattle.std.specs.Int.{w16, w32, from_be_bytes, to_be_bytes}
+use Rattle.frame_spec.specs.declared.TheConstants.{CONTENTS_BYTES}
+use Rattle.frame_spec.specs.Widths.{with_bytes_at}
+use Rattle.message_spec.specs.declared.TheConstants.{FIRST_CONTENTS_BYTE, MAX_WINDOW}
 
 -- what a field holds
 pub data Value : Type 0 where
@@ -36,7 +39,8 @@ width FourBytes = 4
 width WindowByte = 1
 width (ByteRow n) = n
 
--- A field of the contents, which are bytes 9 to 40 of a message: the number of its first byte, and its form.
+-- A field of the contents, which are bytes 9 to 40 of a message: the number of its first byte, and
+-- its form.
 pub record Field : Type 0 where
   pub first : ℕ
   pub form : Form
@@ -46,7 +50,7 @@ field first form = record { first = first; form = form }
 
 -- where a field begins in the contents
 abbrev pub place : Field → ℕ
-place f = f.first - 9
+place f = f.first - FIRST_CONTENTS_BYTE
 
 -- what the contents say at a place, in a form
 abbrev pub value_at : Form → ℕ → List ℕ → Value
@@ -62,26 +66,26 @@ values_at [] contents = []
 values_at (f ∷ fields) contents = value_at f.form (place f) contents ∷ values_at fields contents
 
 -- the bytes of a value in a form
-abbrev pub spelled : Form → Value → List ℕ
-spelled OneByte v = number_in v ∷ []
-spelled TwoBytes v = to_be_bytes w16 (number_in v)
-spelled FourBytes v = to_be_bytes w32 (number_in v)
-spelled WindowByte v = (number_in v - 1) ∷ []
-spelled (ByteRow n) v = bytes_in v
+abbrev pub value_bytes : Form → Value → List ℕ
+value_bytes OneByte v = number_in v ∷ []
+value_bytes TwoBytes v = to_be_bytes w16 (number_in v)
+value_bytes FourBytes v = to_be_bytes w32 (number_in v)
+value_bytes WindowByte v = (number_in v - 1) ∷ []
+value_bytes (ByteRow n) v = bytes_in v
 
 -- some bytes in the place of those that stood there
 unfoldable pub put : ℕ → List ℕ → List ℕ → List ℕ
-put at bytes contents = take at contents ++ bytes ++ drop (at + length bytes) contents
+put at bytes contents = with_bytes_at at bytes contents
 
 -- the values written into their fields, one after the other
-abbrev pub filled : List Field → List Value → List ℕ → List ℕ
-filled [] values contents = contents
-filled (f ∷ fields) [] contents = contents
-filled (f ∷ fields) (v ∷ values) contents = filled fields values (put (place f) (spelled f.form v) contents)
+abbrev pub put_values : List Field → List Value → List ℕ → List ℕ
+put_values [] values contents = contents
+put_values (f ∷ fields) [] contents = contents
+put_values (f ∷ fields) (v ∷ values) contents = put_values fields values (put (place f) (value_bytes f.form v) contents)
 
--- 32 bytes of padding
+-- contents of padding alone
 unfoldable pub padding : List ℕ
-padding = replicate 32 0
+padding = replicate CONTENTS_BYTES 0
 
 -- each is a byte
 abbrev pub AreBytes : List ℕ → Type 0
@@ -92,7 +96,7 @@ abbrev pub Fits : Form → Value → Type 0
 Fits OneByte (Number n) = n < 256
 Fits TwoBytes (Number n) = n < 2 ^ 16
 Fits FourBytes (Number n) = n < 2 ^ 32
-Fits WindowByte (Number n) = (1 ≤ n) × (n ≤ 256)
+Fits WindowByte (Number n) = (1 ≤ n) × (n ≤ MAX_WINDOW)
 Fits (ByteRow k) (Bytes bytes) = (length bytes ≡ k) × AreBytes bytes
 Fits _ _ = ⊥
 
@@ -108,8 +112,8 @@ nth_value n [] = Bytes []
 nth_value zero (v ∷ values) = v
 nth_value (suc n) (v ∷ values) = nth_value n values
 
-abbrev pub number_at : ℕ → List Value → ℕ
-number_at n values = number_in (nth_value n values)
+abbrev pub nth_number : ℕ → List Value → ℕ
+nth_number n values = number_in (nth_value n values)
 
-abbrev pub bytes_at : ℕ → List Value → List ℕ
-bytes_at n values = bytes_in (nth_value n values)
+abbrev pub nth_bytes : ℕ → List Value → List ℕ
+nth_bytes n values = bytes_in (nth_value n values)

@@ -1,5 +1,5 @@
--- What a message is, how a frame is read as one, and the one frame of a message whose padding is zero
--- (ITU-T G.988, clause 11.2 and annex A, baseline message set).
+-- What a message is, how a frame is read as one, and the one frame of a message whose padding is
+-- zero (ITU-T G.988, clause 11.2 and annex A, baseline message set).
 use Rattle.std.specs.Prelude.{◌≡◌, ℕ, ◌^◌, ◌<◌, ◌≤◌, false, List, length, Result, Ok, Err}
 use Rattle.omci_types.specs.declared.EntityId.{EntityId}
 use Rattle.omci_types.specs.declared.Frame.{Frame}
@@ -12,7 +12,9 @@ use Rattle.message_spec.specs.declared.Response.TheVariants as responses
 use Rattle.message_spec.specs.declared.Kind.{Kind}
 use Rattle.message_spec.specs.declared.Kind.TheVariants as kinds
 use Rattle.message_spec.specs.declared.ContentsFault.{ContentsFault}
-use Rattle.message_spec.specs.Fields.{Value, values_at, filled, padding, AreBytes, AllFit}
+use Rattle.frame_spec.specs.declared.TheConstants.{CONTENTS_BYTES}
+use Rattle.message_spec.specs.declared.TheConstants.{MAX_WINDOW}
+use Rattle.message_spec.specs.Fields.{Value, values_at, put_values, padding, AreBytes, AllFit}
 use Rattle.message_spec.specs.Types.{kind_of, type_byte, layout}
 use Rattle.message_spec.specs.Requests.{request_values, request_kind, request_with, section_with, notice_values, notice_kind, alarm_with, change_with}
 use Rattle.message_spec.specs.Responses.{response_action, response_values, response_with}
@@ -38,16 +40,17 @@ message_values (Asked tci entity request) = request_values request
 message_values (Answered tci entity response) = response_values response
 message_values (Told tci entity notice) = notice_values notice
 
--- A message's numbers are in their ranges: those of a field fit the field, arrays have their length and are bytes, and a
--- window is 1 to 256.
+-- A message's numbers are in their ranges: those of a field fit the field, arrays have their length
+-- and are bytes, and a window is 1 to 256.
 pub record IsMessage (m : Message) : Type 0 where
   pub tci : message_tci m < 2 ^ 16
   pub class : (message_entity m).class < 2 ^ 16
   pub instance : (message_entity m).instance < 2 ^ 16
   pub values : AllFit (layout (message_kind m)) (message_values m)
 
--- The message reads the frame: TCI and entity are the frame's, the type byte is that of the message's kind, and each
--- field has the value that the contents have in its place. Padding is free.
+-- The message reads the frame: TCI and entity are the frame's, the type byte is that of the
+-- message's kind, and each field has the value that the contents have in its place. Padding is
+-- free.
 pub record Reads (m : Message) (f : Frame) : Type 0 where
   pub tci : f.tci ≡ message_tci m
   pub kind : f.kind ≡ type_byte (message_kind m)
@@ -60,7 +63,7 @@ plain m = record {
   tci = message_tci m;
   kind = type_byte (message_kind m);
   entity = message_entity m;
-  contents = filled (layout (message_kind m)) (message_values m) padding;
+  contents = put_values (layout (message_kind m)) (message_values m) padding;
 }
 
 -- the message of a kind with these values
@@ -81,7 +84,7 @@ message_of f = message_typed f (kind_of f.kind)
 
 -- the window of a request, response or message is 1 to 256, where it has one
 abbrev pub IsWindow : ℕ → Type 0
-IsWindow window = (1 ≤ window) × (window ≤ 256)
+IsWindow window = (1 ≤ window) × (window ≤ MAX_WINDOW)
 
 abbrev pub RequestWindow : Request → Type 0
 RequestWindow (requests.Start window size targets target) = IsWindow window
@@ -102,5 +105,5 @@ pub record IsFrameInRange (f : Frame) : Type 0 where
   pub kind : f.kind < 256
   pub class : f.entity.class < 2 ^ 16
   pub instance : f.entity.instance < 2 ^ 16
-  pub len : length f.contents ≡ 32
+  pub len : length f.contents ≡ CONTENTS_BYTES
   pub bytes : AreBytes f.contents

@@ -1,5 +1,5 @@
--- The values of a request's and of a notice's fields, in the order of the table, and the request or the notice that has
--- some values.
+-- The values of a request's and of a notice's fields, in the order of the table, and the request or
+-- the notice that has some values.
 use Rattle.std.specs.Prelude.{Bool, true, false, List, [], ◌∷◌}
 use Rattle.message_spec.specs.declared.Action.{Action}
 use Rattle.message_spec.specs.declared.Action.TheVariants.{Create, Delete, Set, Get, Alarms, AlarmsNext, Upload, UploadNext, Reset, Start, Section, End, Activate, Commit, Reboot}
@@ -9,7 +9,7 @@ use Rattle.message_spec.specs.declared.Notice.{Notice}
 use Rattle.message_spec.specs.declared.Notice.TheVariants as notices
 use Rattle.message_spec.specs.declared.Kind.{Kind}
 use Rattle.message_spec.specs.declared.Kind.TheVariants as kinds
-use Rattle.message_spec.specs.Fields.{Value, Number, Bytes, number_at, bytes_at}
+use Rattle.message_spec.specs.Fields.{Value, Number, Bytes, nth_number, nth_bytes}
 
 -- the values of a request's fields
 abbrev pub request_values : Request → List Value
@@ -53,25 +53,25 @@ request_kind (requests.Reboot flags) = kinds.Request Reboot
 
 -- the section with these values
 abbrev pub section_with : Bool → List Value → Request
-section_with last v = requests.Section (number_at 0 v) (bytes_at 1 v) last
+section_with last v = requests.Section (nth_number 0 v) (nth_bytes 1 v) last
 
 -- the request of a command with these values and with AR
 abbrev pub request_with : Action → List Value → Request
-request_with Create v = requests.Create (bytes_at 0 v)
+request_with Create v = requests.Create (nth_bytes 0 v)
 request_with Delete v = requests.Delete
-request_with Set v = requests.Set (number_at 0 v) (bytes_at 1 v)
-request_with Get v = requests.Get (number_at 0 v)
-request_with Alarms v = requests.Alarms (number_at 0 v)
-request_with AlarmsNext v = requests.AlarmsNext (number_at 0 v)
+request_with Set v = requests.Set (nth_number 0 v) (nth_bytes 1 v)
+request_with Get v = requests.Get (nth_number 0 v)
+request_with Alarms v = requests.Alarms (nth_number 0 v)
+request_with AlarmsNext v = requests.AlarmsNext (nth_number 0 v)
 request_with Upload v = requests.Upload
-request_with UploadNext v = requests.UploadNext (number_at 0 v)
+request_with UploadNext v = requests.UploadNext (nth_number 0 v)
 request_with Reset v = requests.Reset
-request_with Start v = requests.Start (number_at 0 v) (number_at 1 v) (number_at 2 v) (number_at 3 v)
+request_with Start v = requests.Start (nth_number 0 v) (nth_number 1 v) (nth_number 2 v) (nth_number 3 v)
 request_with Section v = section_with true v
-request_with End v = requests.End (number_at 0 v) (number_at 1 v) (number_at 2 v) (number_at 3 v)
-request_with Activate v = requests.Activate (number_at 0 v)
+request_with End v = requests.End (nth_number 0 v) (nth_number 1 v) (nth_number 2 v) (nth_number 3 v)
+request_with Activate v = requests.Activate (nth_number 0 v)
 request_with Commit v = requests.Commit
-request_with Reboot v = requests.Reboot (number_at 0 v)
+request_with Reboot v = requests.Reboot (nth_number 0 v)
 
 -- the values of a notice's fields
 abbrev pub notice_values : Notice → List Value
@@ -83,7 +83,7 @@ notice_kind (notices.Alarm bitmap number) = kinds.Alarm
 notice_kind (notices.Change mask values) = kinds.Change
 
 abbrev pub alarm_with : List Value → Notice
-alarm_with v = notices.Alarm (bytes_at 0 v) (number_at 1 v)
+alarm_with v = notices.Alarm (nth_bytes 0 v) (nth_number 1 v)
 
 abbrev pub change_with : List Value → Notice
-change_with v = notices.Change (number_at 0 v) (bytes_at 1 v)
+change_with v = notices.Change (nth_number 0 v) (nth_bytes 1 v)

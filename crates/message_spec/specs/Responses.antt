@@ -1,11 +1,12 @@
--- The values of a response's fields, in the order of the table, and the response that has some values.
+-- The values of a response's fields, in the order of the table, and the response that has some
+-- values.
 use Rattle.std.specs.Prelude.{ℕ, List, [], ◌∷◌}
 use Rattle.omci_types.specs.declared.Code.{Code}
 use Rattle.message_spec.specs.declared.Action.{Action}
 use Rattle.message_spec.specs.declared.Action.TheVariants.{Create, Delete, Set, Get, Alarms, AlarmsNext, Upload, UploadNext, Reset, Start, Section, End, Activate, Commit, Reboot}
 use Rattle.message_spec.specs.declared.Response.{Response}
 use Rattle.message_spec.specs.declared.Response.TheVariants as responses
-use Rattle.message_spec.specs.Fields.{Value, Number, Bytes, number_at, bytes_at}
+use Rattle.message_spec.specs.Fields.{Value, Number, Bytes, nth_number, nth_bytes}
 
 -- the command that a response answers
 abbrev pub response_action : Response → Action
@@ -45,21 +46,21 @@ response_values (responses.Reboot code) = Number code.0 ∷ []
 
 -- the code among some values
 abbrev pub code_at : ℕ → List Value → Code
-code_at n v = record { 0 = number_at n v }
+code_at n v = record { 0 = nth_number n v }
 
 -- the response to a command with these values
 abbrev pub response_with : Action → List Value → Response
-response_with Create v = responses.Create (code_at 0 v) (number_at 1 v)
+response_with Create v = responses.Create (code_at 0 v) (nth_number 1 v)
 response_with Delete v = responses.Delete (code_at 0 v)
-response_with Set v = responses.Set (code_at 0 v) (number_at 1 v) (number_at 2 v)
-response_with Get v = responses.Get (code_at 0 v) (number_at 1 v) (bytes_at 2 v) (number_at 3 v) (number_at 4 v)
-response_with Alarms v = responses.Alarms (number_at 0 v)
-response_with AlarmsNext v = responses.AlarmsNext (bytes_at 0 v)
-response_with Upload v = responses.Upload (number_at 0 v)
-response_with UploadNext v = responses.UploadNext (bytes_at 0 v)
+response_with Set v = responses.Set (code_at 0 v) (nth_number 1 v) (nth_number 2 v)
+response_with Get v = responses.Get (code_at 0 v) (nth_number 1 v) (nth_bytes 2 v) (nth_number 3 v) (nth_number 4 v)
+response_with Alarms v = responses.Alarms (nth_number 0 v)
+response_with AlarmsNext v = responses.AlarmsNext (nth_bytes 0 v)
+response_with Upload v = responses.Upload (nth_number 0 v)
+response_with UploadNext v = responses.UploadNext (nth_bytes 0 v)
 response_with Reset v = responses.Reset (code_at 0 v)
-response_with Start v = responses.Start (code_at 0 v) (number_at 1 v)
-response_with Section v = responses.Section (code_at 0 v) (number_at 1 v)
+response_with Start v = responses.Start (code_at 0 v) (nth_number 1 v)
+response_with Section v = responses.Section (code_at 0 v) (nth_number 1 v)
 response_with End v = responses.End (code_at 0 v)
 response_with Activate v = responses.Activate (code_at 0 v)
 response_with Commit v = responses.Commit (code_at 0 v)

@@ -8,6 +8,7 @@ use Rattle.message_spec.specs.declared.Kind.{Kind}
 use Rattle.message_spec.specs.declared.Kind.TheVariants as kinds
 use Rattle.message_spec.specs.declared.ContentsFault.{ContentsFault}
 use Rattle.message_spec.specs.declared.ContentsFault.TheVariants.{UnknownType, Bits}
+use Rattle.message_spec.specs.declared.TheConstants.{TYPE_BITS, FLAG_BITS, AR, AK}
 use Rattle.message_spec.specs.Fields.{OneByte, TwoBytes, FourBytes, WindowByte, ByteRow, Field, field}
 
 -- A command's row: its number, its name, and the fields of its request and of its response.
@@ -21,8 +22,8 @@ pub record Row : Type 0 where
 abbrev pub code_alone : List Field
 code_alone = field 9 OneByte ∷ []
 
--- The table of the commands. The number of a field is that of its first byte in the message; what lies between the
--- fields and past them is padding.
+-- The table of the commands. The number of a field is that of its first byte in the message; what
+-- lies between the fields and past them is padding.
 abbrev pub row : Action → Row
 row Create = record {
   number = 4;
@@ -158,22 +159,22 @@ type_numbered number = first_numbered all_types number
 
 -- the low five bits of a type byte
 abbrev pub type_bits : ℕ → ℕ
-type_bits byte = bit_and byte 0x1f
+type_bits byte = bit_and byte TYPE_BITS
 
 -- the high three bits of a type byte: a bit that is 0, AR and AK
 abbrev pub flag_bits : ℕ → ℕ
-flag_bits byte = bit_and byte 0xe0
+flag_bits byte = bit_and byte FLAG_BITS
 
 abbrev pub is_section : Action → Bool
 is_section Section = true
 is_section _ = false
 
--- a command's kind under these flags: AR alone for its request, AK alone for its response, and neither for a section
--- that asks for no response
+-- a command's kind under these flags: AR alone for its request, AK alone for its response, and
+-- neither for a section that asks for no response
 abbrev pub command_kind : Action → ℕ → Option Kind
 command_kind a flags =
-    if flags == 0x40 then Some (kinds.Request a)
-    else if flags == 0x20 then Some (kinds.Response a)
+    if flags == AR then Some (kinds.Request a)
+    else if flags == AK then Some (kinds.Response a)
     else if flags == 0 && is_section a then Some kinds.UnansweredSection
     else None
 
@@ -197,9 +198,9 @@ kind_of byte = kind_typed byte (type_numbered (type_bits byte))
 
 -- the type byte of a kind
 abbrev pub type_byte : Kind → ℕ
-type_byte (kinds.Request a) = 0x40 + (row a).number
+type_byte (kinds.Request a) = AR + (row a).number
 type_byte kinds.UnansweredSection = (row Section).number
-type_byte (kinds.Response a) = 0x20 + (row a).number
+type_byte (kinds.Response a) = AK + (row a).number
 type_byte kinds.Alarm = alarm.number
 type_byte kinds.Change = change.number
 

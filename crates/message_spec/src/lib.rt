@@ -1,9 +1,31 @@
-//! What a message is, how a frame is read as one, and its text. The crate has types and definitions alone.
+//! What a message is, how a frame is read as one, and its text. The crate has types and definitions
+//! alone.
 //!
 //! The messages are those of ITU-T G.988, clause 11.2 and annex A, in the baseline message set.
 #![tactic(auto)]
 
 pub use omci_types::{Code, EntityId, Frame};
+
+/// The number of the first byte of a baseline message's contents. Bytes are numbered from 1.
+pub const FIRST_CONTENTS_BYTE: usize = 9;
+
+/// In a type byte: the message type (ITU-T G.988, clause 11.2.2).
+pub const TYPE_BITS: u8 = 0x1f;
+
+/// In a type byte: the bit that is always 0, AR and AK.
+pub const FLAG_BITS: u8 = 0xe0;
+
+/// In a type byte: acknowledge request. It is set alone in what asks for a response.
+pub const AR: u8 = 0x40;
+
+/// In a type byte: acknowledge. It is set alone in a response.
+pub const AK: u8 = 0x20;
+
+/// The most sections of a window of a software download. The least is 1.
+pub const MAX_WINDOW: u16 = 256;
+
+/// The most bytes of a baseline message's text.
+pub const MAX_TEXT_BYTES: usize = 98;
 
 /// What a frame says: a request, a response or a notice, with its TCI and its entity.
 #[derive(Clone, Copy, Debug, PartialEq, Eq)]
@@ -220,7 +242,8 @@ pub enum Notice {
     },
 }
 
-/// A command of the OLT, by its message type (ITU-T G.988, clause 11.2.2). Each has a request and a response.
+/// A command of the OLT, by its message type (ITU-T G.988, clause 11.2.2). Each has a request and a
+/// response.
 #[derive(Clone, Copy, Debug, PartialEq, Eq)]
 pub enum Action {
     Create,

@@ -1,33 +1,34 @@
-//! The fields of contents: numbers and rows of bytes, by the number of their first byte in the message. Contents are
-//! bytes 9 to 40.
+//! The fields of contents: numbers and rows of bytes, by the number of their first byte in the
+//! message. Contents are bytes 9 to 40.
 
 ghost use Rattle.std.specs.Prelude.{◌≡◌, ◌+◌, ◌-◌, ◌≤◌, ◌∷◌, [], length, take, drop, slice_index};
 ghost use Rattle.std.specs.Int.{w16, w32, from_be_bytes, to_be_bytes};
 ghost use Rattle.message_spec.specs.Fields.{put, padding};
 
-/// The number of the first byte of the contents.
-const FIRST: usize = 9;
+use frame_spec::CONTENTS_BYTES;
+use message_spec::FIRST_CONTENTS_BYTE;
+use omci_core::put_at;
 
 // The number of one byte.
-pub fn byte_at(contents: &[u8; 32], first: usize) -> u8
+pub fn byte_at(contents: &[u8; CONTENTS_BYTES], first: usize) -> u8
     requires { (9 ≤ first) × (first ≤ 40) }
     ensures { result ≡ slice_index contents.now (first - 9) }
 {
-    contents[first - FIRST]
+    contents[first - FIRST_CONTENTS_BYTE]
 }
 
 // Some bytes.
-pub fn row_at<const N: usize>(contents: &[u8; 32], first: usize) -> [u8; N]
+pub fn row_at<const N: usize>(contents: &[u8; CONTENTS_BYTES], first: usize) -> [u8; N]
     requires { (9 ≤ first) × (first + N ≤ 41) }
     ensures { result ≡ take N (drop (first - 9) contents.now) }
 {
     let mut row = [0; N];
-    row.copy_from_slice(&contents[first - FIRST..first - FIRST + N]);
+    row.copy_from_slice(&contents[first - FIRST_CONTENTS_BYTE..first - FIRST_CONTENTS_BYTE + N]);
     row
 }
 
 // The number of two bytes.
-pub fn two_at(contents: &[u8; 32], first: usize) -> u16
+pub fn two_at(contents: &[u8; CONTENTS_BYTES], first: usize) -> u16
     requires { (9 ≤ first) × (first ≤ 39) }
     ensures { result ≡ from_be_bytes w16 (take 2 (drop (first - 9) contents.now)) }
 {
@@ -35,7 +36,7 @@ pub fn two_at(contents: &[u8; 32], first: usize) -> u16
 }
 
 // The number of four bytes.
-pub fn four_at(contents: &[u8; 32], first: usize) -> u32
+pub fn four_at(contents: &[u8; CONTENTS_BYTES], first: usize) -> u32
     requires { (9 ≤ first) × (first ≤ 37) }
     ensures { result ≡ from_be_bytes w32 (take 4 (drop (first - 9) contents.now)) }
 {
@@ -44,7 +45,7 @@ pub fn four_at(contents: &[u8; 32], first: usize) -> u32
 
 /// Contents that are being written: zeros, and the fields so far.
 #[derive(Clone, Copy)]
-pub struct Contents(pub [u8; 32]);
+pub struct Contents(pub [u8; CONTENTS_BYTES]);
 
 impl Contents {
     // Zeros alone.
@@ -52,7 +53,7 @@ impl Contents {
     pub fn padding() -> Contents
         ensures { result.0 ≡ padding }
     {
-        Contents([0; 32])
+        Contents([0; CONTENTS_BYTES])
     }
 
     // Puts some bytes.
@@ -61,8 +62,7 @@ impl Contents {
         requires { (9 ≤ first) × (first + N ≤ 41) }
         ensures { result.0 ≡ put (first - 9) bytes.now self.0 }
     {
-        let place = first - FIRST;
-        self.0[place..place + N].copy_from_slice(bytes);
+        put_at(&mut self.0, first - FIRST_CONTENTS_BYTE, bytes);
         self
     }
 

@@ -4,16 +4,7 @@ ghost use Rattle.std.specs.Prelude.{◌≡◌};
 ghost use Rattle.message_spec.specs.Types.{type_numbered, command_kind, kind_flagged, kind_of, type_byte};
 ghost use Rattle.message_spec.specs.Types as spec;
 
-use message_spec::{Action, ContentsFault, Kind, MessageType};
-
-/// The mask of the message type.
-const TYPE_BITS: u8 = 0x1f;
-/// The mask of the bit that is 0, of AR and of AK.
-const FLAG_BITS: u8 = 0xe0;
-/// Acknowledge request: the flags of a request.
-const AR: u8 = 0x40;
-/// Acknowledge: the flags of a response.
-const AK: u8 = 0x20;
+use message_spec::{AK, AR, Action, ContentsFault, FLAG_BITS, Kind, MessageType, TYPE_BITS};
 
 // The message type of a number.
 #[tactic(auto, unfolding(message_spec::specs::Types::type_numbered))]
@@ -57,10 +48,11 @@ fn kind_under(message_type: MessageType, flags: u8) -> Option<Kind>
     }
 }
 
-// What a type byte stands for.
+/// What a type byte stands for. `UnknownType` where its low five bits are the number of no message
+/// type, and else `Bits` where the other three are those of none of its messages.
 #[tactic(auto, unfolding(message_spec::specs::Types::kind_of))]
 pub fn read_kind(byte: u8) -> Result<Kind, ContentsFault>
-    ensures { result ≡ kind_of byte }
+    ensures value { result ≡ kind_of byte }
 {
     let number = byte & TYPE_BITS;
     let Some(message_type) = message_type(number) else {
@@ -95,9 +87,9 @@ fn number(action: Action) -> u8
     }
 }
 
-// The type byte of a kind.
+/// The type byte of a kind.
 pub fn write_kind(kind: Kind) -> u8
-    ensures { result ≡ type_byte kind }
+    ensures value { result ≡ type_byte kind }
 {
     match kind {
         Kind::Request(action) => AR | number(action),

@@ -13,10 +13,11 @@ ghost use Rattle.message_spec.specs.declared.Kind.TheVariants as kinds;
 
 use crate::fields::{byte_at, four_at, row_at, two_at};
 use crate::kinds::read_kind;
+use frame_spec::CONTENTS_BYTES;
 use message_spec::{Action, Code, ContentsFault, Frame, Kind, Message, Notice, Request, Response};
 
 // The window of a byte, which is one less.
-fn window_at(contents: &[u8; 32], first: usize) -> u16
+fn window_at(contents: &[u8; CONTENTS_BYTES], first: usize) -> u16
     requires { (9 ≤ first) × (first ≤ 40) }
     ensures { result ≡ slice_index contents.now (first - 9) + 1 }
 {
@@ -24,7 +25,7 @@ fn window_at(contents: &[u8; 32], first: usize) -> u16
 }
 
 // The section of some contents.
-fn read_section(contents: &[u8; 32], last: bool) -> Request
+fn read_section(contents: &[u8; CONTENTS_BYTES], last: bool) -> Request
     ensures { result ≡ section_with last (values_at (layout kinds.UnansweredSection) contents.now) }
 {
     Request::Section {
@@ -35,7 +36,7 @@ fn read_section(contents: &[u8; 32], last: bool) -> Request
 }
 
 // The request of some contents with AR.
-fn read_request(action: Action, contents: &[u8; 32]) -> Request
+fn read_request(action: Action, contents: &[u8; CONTENTS_BYTES]) -> Request
     ensures { result ≡ request_with action (values_at (layout (kinds.Request action)) contents.now) }
 {
     match action {
@@ -85,7 +86,7 @@ fn read_request(action: Action, contents: &[u8; 32]) -> Request
 }
 
 // The response of some contents.
-fn read_response(action: Action, contents: &[u8; 32]) -> Response
+fn read_response(action: Action, contents: &[u8; CONTENTS_BYTES]) -> Response
     ensures { result ≡ response_with action (values_at (layout (kinds.Response action)) contents.now) }
 {
     let code = Code(byte_at(contents, 9));
@@ -136,7 +137,7 @@ fn read_response(action: Action, contents: &[u8; 32]) -> Response
 }
 
 // The alarm notice of some contents.
-fn read_alarm(contents: &[u8; 32]) -> Notice
+fn read_alarm(contents: &[u8; CONTENTS_BYTES]) -> Notice
     ensures { result ≡ alarm_with (values_at (layout kinds.Alarm) contents.now) }
 {
     Notice::Alarm {
@@ -146,7 +147,7 @@ fn read_alarm(contents: &[u8; 32]) -> Notice
 }
 
 // The notice of changed values of some contents.
-fn read_change(contents: &[u8; 32]) -> Notice
+fn read_change(contents: &[u8; CONTENTS_BYTES]) -> Notice
     ensures { result ≡ change_with (values_at (layout kinds.Change) contents.now) }
 {
     Notice::Change {
@@ -196,15 +197,17 @@ fn message_of_kind(kind: Kind, frame: &Frame) -> Message
 
 /// Reads a frame as a message. Padding isn't looked at.
 ///
-/// `UnknownType` comes exactly where the low five bits of the type byte are the number of no message type, and `Bits`
-/// exactly where they are one's but the other three bits are those of none of its messages: a request has AR alone, a
-/// response AK alone, a notice neither, and a section of a software image that asks for no response neither
-/// (ITU-T G.988, clause 11.2.2). It takes no memory.
+/// `UnknownType` comes exactly where the low five bits of the type byte are the number of no
+/// message type, and `Bits` exactly where they are one's but the other three bits are those of none
+/// of its messages: a request has AR alone, a response AK alone, a notice neither, and a section of
+/// a software image that asks for no response neither (ITU-T G.988, clause 11.2.2). It takes no
+/// memory.
 #[tactic(auto, unfolding(message_spec::specs::Reading::message_of))]
 pub fn read_message(frame: &Frame) -> Result<Message, ContentsFault>
     ensures value { result ≡ message_of frame.now }
     ensures reads { (m : Message) → ((result ≡ Ok m) ↔ Reads m frame.now) }
-    ensures unknown { (number : ℕ) → ((result ≡ Err (UnknownType number)) ↔ IsUnknownType frame.now number) }
+    ensures unknown { (number : ℕ) → ((result ≡ Err (UnknownType number))
+        ↔ IsUnknownType frame.now number) }
     ensures bits { (byte : ℕ) → ((result ≡ Err (Bits byte)) ↔ HasWrongBits frame.now byte) }
 {
     let kind = read_kind(frame.kind)?;

@@ -1,7 +1,7 @@
 //! Writing a message as a frame.
 
 ghost use Rattle.std.specs.Prelude.{◌≡◌, ◌≤◌, ◌-◌, ◌∷◌, [], ◌↔◌, IsTrue};
-ghost use Rattle.message_spec.specs.Fields.{filled, padding, put};
+ghost use Rattle.message_spec.specs.Fields.{put_values, padding, put};
 ghost use Rattle.message_spec.specs.Types.{layout};
 ghost use Rattle.message_spec.specs.Requests.{request_kind, request_values, notice_kind, notice_values};
 ghost use Rattle.message_spec.specs.Responses.{response_action, response_values};
@@ -10,11 +10,11 @@ ghost use Rattle.message_spec.specs.declared.Kind.TheVariants as kinds;
 
 use crate::fields::Contents;
 use crate::kinds::write_kind;
-use message_spec::{Action, Frame, Kind, Message, Notice, Request, Response};
+use message_spec::{Action, Frame, Kind, MAX_WINDOW, Message, Notice, Request, Response};
 
 // Puts the byte of a window, which is one less.
 fn with_window(contents: Contents, first: usize, window: u16) -> Contents
-    requires { (9 ≤ first) × (first ≤ 40) × (1 ≤ window) × (window ≤ 256) }
+    requires { (9 ≤ first) × (first ≤ 40) × (1 ≤ window) × (window ≤ MAX_WINDOW) }
     ensures { result.0 ≡ put (first - 9) ((window - 1) ∷ []) contents.0 }
 {
     contents.byte(first, (window - 1) as u8)
@@ -23,7 +23,8 @@ fn with_window(contents: Contents, first: usize, window: u16) -> Contents
 // The contents of a request.
 fn request_contents(request: &Request) -> Contents
     requires { RequestWindow request.now }
-    ensures { result.0 ≡ filled (layout (request_kind request.now)) (request_values request.now) padding }
+    ensures { result.0
+        ≡ put_values (layout (request_kind request.now)) (request_values request.now) padding }
 {
     let padding = Contents::padding();
     match *request {
@@ -60,7 +61,8 @@ fn request_contents(request: &Request) -> Contents
 // The contents of a response.
 fn response_contents(response: &Response) -> Contents
     requires { ResponseWindow response.now }
-    ensures { result.0 ≡ filled (layout (kinds.Response (response_action response.now))) (response_values response.now) padding }
+    ensures { result.0
+        ≡ put_values (layout (kinds.Response (response_action response.now))) (response_values response.now) padding }
 {
     let padding = Contents::padding();
     match *response {
@@ -98,7 +100,8 @@ fn response_contents(response: &Response) -> Contents
 
 // The contents of a notice.
 fn notice_contents(notice: &Notice) -> Contents
-    ensures { result.0 ≡ filled (layout (notice_kind notice.now)) (notice_values notice.now) padding }
+    ensures { result.0
+        ≡ put_values (layout (notice_kind notice.now)) (notice_values notice.now) padding }
 {
     let padding = Contents::padding();
     match *notice {
@@ -169,10 +172,11 @@ fn kind_of_notice(notice: &Notice) -> Kind
 fn is_window(window: u16) -> bool
     ensures { IsTrue result ↔ IsWindow window }
 {
-    (1..=256).contains(&window)
+    (1..=MAX_WINDOW).contains(&window)
 }
 
-/// Whether the window of a message is 1 to 256, where the message has one. `write_message` needs it.
+/// Whether the window of a message is 1 to 256, where the message has one. `write_message` needs
+/// it.
 pub fn has_valid_window(message: &Message) -> bool
     ensures { IsTrue result ↔ HasWindow message.now }
 {
@@ -189,7 +193,8 @@ pub fn has_valid_window(message: &Message) -> bool
     }
 }
 
-/// Writes a message as a frame, with its padding as zeros. A window must be 1 to 256. It takes no memory.
+/// Writes a message as a frame, with its padding as zeros. A window must be 1 to 256. It takes no
+/// memory.
 #[tactic(auto, unfolding(message_spec::specs::Reading::plain))]
 pub fn write_message(message: &Message) -> Frame
     requires { HasWindow message.now }

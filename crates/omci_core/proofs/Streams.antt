@@ -1,4 +1,5 @@
--- How the calls of a source and of a sink follow one another: what several reads took, and what several writes added.
+-- How the calls of a source and of a sink follow one another: what several reads took, and what
+-- several writes added.
 use Rattle.std.proofs.Common.{◌≡◌, ℕ, List, [], ◌++◌, Option, None, Some, refl, sym, ◌∙◌, ap, append_assoc, append-nil}
 use Rattle.std.specs.Io.KnownBytes.{Keeps, Appends, Consumes, IsAtEnd}
 

@@ -13,7 +13,8 @@ pub record SourceState : Type 0 where
   pub fails : List ℕ
   pub faults : ℕ
 
--- a sink: the bytes written, how many it has room for, the calls so far, the calls that are to fail, and the faults so far
+-- a sink: the bytes written, how many it has room for, the calls so far, the calls that are to
+-- fail, and the faults so far
 pub record SinkState : Type 0 where
   pub written : List ℕ
   pub room : ℕ

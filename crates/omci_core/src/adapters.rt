@@ -1,3 +1,5 @@
+//! Sources and sinks over the readers and writers of std.
+
 ghost use Rattle.std.specs.Prelude.{◌≡◌};
 
 use crate::errors::Failed;
@@ -5,7 +7,8 @@ use crate::outside::{Sink, Source};
 use std::io::{Read, Write};
 use std::marker::Model;
 
-/// A source over a reader of std. Each error of the reader is a fault; at its last value the count stays.
+/// A source over a reader of std. Each error of the reader is a fault; at its last value the count
+/// stays.
 #[derive(Drop)]
 pub struct StdSource<R> {
     reader: R,
@@ -46,8 +49,8 @@ impl<R: Read> Source for StdSource<R> {
     }
 }
 
-/// A sink over a writer of std. Each error of the writer is a fault, and so is a write that takes no byte of a
-/// piece that isn't empty; at its last value the count stays.
+/// A sink over a writer of std. Each error of the writer is a fault, and so is a write that takes
+/// no byte of a piece that isn't empty; at its last value the count stays.
 #[derive(Drop)]
 pub struct StdSink<W> {
     writer: W,

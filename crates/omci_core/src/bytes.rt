@@ -1,3 +1,5 @@
+//! A list of bytes on the heap.
+
 ghost use Rattle.std.specs.Prelude.{◌≡◌, ◌==◌, IfOk, length};
 
 use crate::errors::NoMemory;

@@ -1,3 +1,5 @@
+//! The two ways in which a call may fail that is not at fault: want of memory, and the outside.
+
 ghost use Rattle.std.specs.Prelude.{◌≡◌};
 
 use std::alloc::{AllocError, AllocFailed};

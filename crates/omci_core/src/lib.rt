@@ -1,11 +1,12 @@
-//! What every part of the OMCI channel stands on: its small types, the byte sources and sinks of the outside,
-//! and their forms in memory and over std.
+//! What every part of the OMCI channel stands on: its small types, the byte sources and sinks of
+//! the outside, and their forms in memory and over std.
 #![tactic(auto)]
 
-ghost use Rattle.std.specs.Prelude.{◌≡◌, ◌≢◌, ◌-◌, ◌^◌, ◌<◌, ◌≤◌};
-ghost use Rattle.omci_core.specs.Numbers.{next_number_of};
+ghost use Rattle.std.specs.Prelude.{◌≡◌, ◌≢◌, ◌<◌, ◌≤◌};
+ghost use Rattle.tci_spec.specs.Tci.{number_after};
 
 mod adapters;
+mod arrays;
 mod bytes;
 mod errors;
 mod memory;
@@ -14,28 +15,24 @@ mod packet;
 mod words;
 
 pub use adapters::{StdSink, StdSource};
+pub use arrays::{filled, front_filled, put_at};
 pub use bytes::Bytes;
 pub use errors::{Failed, NoMemory};
+pub use frame_spec::{FIRST_HIGH_TCI, LAST_NUMBER, MAX_PACKET_BYTES};
 pub use memory::{MemSink, MemSource};
 pub use omci_types::{Boot, Code, EntityId, Priority, SlotView, Software};
 pub use outside::{Sink, Source};
-pub use packet::{MAX_PACKET_BYTES, Packet, Packets};
+pub use packet::{Packet, Packets};
 pub use words::Words;
-
-/// The last number of a command; the number after it is 1.
-const LAST_NUMBER: u16 = 32_767;
 
 /// The number of the next command of a priority. Numbers run from 1 to 32,767 and begin again at 1.
 pub fn next_number(n: u16) -> u16
     requires low { 0 < n }
-    requires high { n ≤ 2 ^ 15 - 1 }
-    ensures value { result ≡ next_number_of n }
+    requires high { n ≤ LAST_NUMBER }
+    ensures value { result ≡ number_after n }
     ensures low { 0 < result }
-    ensures high { result ≤ 2 ^ 15 - 1 }
+    ensures high { result ≤ LAST_NUMBER }
     ensures differs { result ≢ n }
 {
     if n == LAST_NUMBER { 1 } else { n + 1 }
 }
-
-#[cfg(test)]
-mod tests;

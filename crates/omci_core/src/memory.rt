@@ -1,15 +1,19 @@
+//! Sources and sinks in memory, whose failing calls are chosen when they are made.
+
 ghost use Rattle.std.specs.Prelude.{◌≡◌, ◌↔◌, ◌+◌, ◌-◌, ◌<◌, ◌≤◌, ◌++◌, [], min, length, take, drop, Some, MatchResult, IfOk, OnErr, IsErr, IsTrue};
 ghost use Rattle.std.specs.Io.{ReadsAtMost, WritesAtMost};
 ghost use Rattle.std.specs.Io.KnownBytes.{ReadConsumes, WriteAppends};
 ghost use Rattle.omci_core.specs.Causes.{HasCause};
 ghost use Rattle.omci_core.specs.Memory.{source_fails, source_taken, source_failed, sink_fails, sink_wrote, sink_failed};
 
+use crate::arrays::put_at;
 use crate::errors::{Failed, NoMemory};
 use crate::outside::{Sink, Source};
 use std::alloc::Global;
 use std::marker::Model;
 
-/// A source over bytes in memory. Its calls are counted from 1, and those that the list of fails names fail.
+/// A source over bytes in memory. Its calls are counted from 1, and those that the list of fails
+/// names fail.
 #[derive(Debug, Drop)]
 pub struct MemSource {
     bytes: Vec<u8>,
@@ -25,7 +29,12 @@ impl Model for MemSource {
 
     ghost Value = { SourceState };
 
-    ghost view = { λ s. record { left = drop s.place s.bytes.items; calls = s.calls; fails = s.fails.items; faults = s.faults } };
+    ghost view = { λ s. record {
+      left = drop s.place s.bytes.items;
+      calls = s.calls;
+      fails = s.fails.items;
+      faults = s.faults;
+    } };
 
     ghost invariant = { λ s. s.place ≤ length s.bytes.items };
 }
@@ -61,7 +70,8 @@ impl Source for MemSource {
         ensures count { IfOk result (λ n. n ≡ min (length self.old.left) (length into.old)) }
         ensures copied { IfOk result (λ n. into.new ≡ take n self.old.left ++ drop n into.old) }
         ensures untouched { OnErr result (into.new ≡ into.old) }
-        ensures after { MatchResult result (λ n. self.new ≡ source_taken n self.old) (λ _. self.new ≡ source_failed self.old) }
+        ensures after { MatchResult result (λ n. self.new ≡ source_taken n self.old)
+            (λ _. self.new ≡ source_failed self.old) }
     {
         self.calls = self.calls.saturating_add(1);
         if self.fails.contains(&self.calls) {
@@ -74,7 +84,8 @@ impl Source for MemSource {
     }
 }
 
-/// Copies the bytes of `from` from the place `at` on, as many as there is room for, and answers how many.
+/// Copies the bytes of `from` from the place `at` on, as many as there is room for, and answers how
+/// many.
 fn copy_out(from: &[u8], at: usize, into: &mut [u8]) -> usize
     requires { at ≤ length from.now }
     ensures count { result ≡ min (length from.now - at) (length into.old) }
@@ -91,12 +102,12 @@ fn copy_front(from: &[u8], into: &mut [u8]) -> usize
     ensures copied { into.new ≡ take result from.now ++ drop result into.old }
 {
     let count = from.len().min(into.len());
-    into[..count].copy_from_slice(&from[..count]);
+    put_at(into, 0, &from[..count]);
     count
 }
 
-/// A sink in memory with room for so many bytes. Its calls are counted from 1; one fails where the list of fails
-/// names it or where no room is left.
+/// A sink in memory with room for so many bytes. Its calls are counted from 1; one fails where the
+/// list of fails names it or where no room is left.
 #[derive(Debug, Drop)]
 pub struct MemSink {
     bytes: Vec<u8>,
@@ -112,13 +123,20 @@ impl Model for MemSink {
 
     ghost Value = { SinkState };
 
-    ghost view = { λ s. record { written = take s.place s.bytes.items; room = length s.bytes.items; calls = s.calls; fails = s.fails.items; faults = s.faults } };
+    ghost view = { λ s. record {
+      written = take s.place s.bytes.items;
+      room = length s.bytes.items;
+      calls = s.calls;
+      fails = s.fails.items;
+      faults = s.faults;
+    } };
 
     ghost invariant = { λ s. s.place ≤ length s.bytes.items };
 }
 
 impl MemSink {
-    /// A sink with room for `room` bytes that fails at these calls. `NoMemory` where there is no memory for the room.
+    /// A sink with room for `room` bytes that fails at these calls. `NoMemory` where there is no
+    /// memory for the room.
     pub fn new(alloc: Global, room: usize, fails: Vec<u64>) -> Result<MemSink, NoMemory>
         ensures written { IfOk result (λ sink. sink.written ≡ []) }
         ensures room { IfOk result (λ sink. sink.room ≡ room) }
@@ -156,8 +174,10 @@ impl Sink for MemSink {
         ensures bytes { WriteAppends (Some self.old.written) (Some self.new.written) result from.now }
         ensures cause { HasCause self.old.faults self.new.faults result }
         ensures fault { IsErr result ↔ IsTrue (sink_fails self.old) }
-        ensures count { IfOk result (λ n. n ≡ min (length from.now) (self.old.room - length self.old.written)) }
-        ensures after { MatchResult result (λ n. self.new ≡ sink_wrote (take n from.now) self.old) (λ _. self.new ≡ sink_failed self.old) }
+        ensures count { IfOk result
+            (λ n. n ≡ min (length from.now) (self.old.room - length self.old.written)) }
+        ensures after { MatchResult result (λ n. self.new ≡ sink_wrote (take n from.now) self.old)
+            (λ _. self.new ≡ sink_failed self.old) }
     {
         self.calls = self.calls.saturating_add(1);
         if self.fails.contains(&self.calls) || self.place == self.bytes.len() {
@@ -170,7 +190,8 @@ impl Sink for MemSink {
     }
 }
 
-/// Copies as much of the front of `from` as there is room for from the place `at` on, and answers how many bytes.
+/// Copies as much of the front of `from` as there is room for from the place `at` on, and answers
+/// how many bytes.
 fn copy_in(from: &[u8], into: &mut [u8], at: usize) -> usize
     requires { at ≤ length into.old }
     ensures count { result ≡ min (length from.now) (length into.old - at) }
@@ -178,6 +199,6 @@ fn copy_in(from: &[u8], into: &mut [u8], at: usize) -> usize
     ensures len { length into.new ≡ length into.old }
 {
     let count = from.len().min(into.len() - at);
-    into[at..at + count].copy_from_slice(&from[..count]);
+    put_at(into, at, &from[..count]);
     count
 }

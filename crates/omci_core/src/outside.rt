@@ -1,3 +1,6 @@
+//! The outside as its users see it: sources of bytes and sinks for bytes, each with a count of its
+//! faults.
+
 ghost use Rattle.std.specs.Prelude.{ℕ, ◌<◌, List, Option, IfOk, length};
 ghost use Rattle.std.specs.Io.{ReadsAtMost, WritesAtMost};
 ghost use Rattle.std.specs.Io.KnownBytes.{ReadConsumes, WriteAppends};
@@ -13,8 +16,9 @@ pub trait Source {
     // How many faults the source has had.
     ghost faults: { Self → ℕ };
 
-    /// Reads bytes into the front of the buffer and answers how many: 0 for a buffer that isn't empty is the end.
-    /// `Failed` comes only with a fault that the source has counted, and takes nothing.
+    /// Reads bytes into the front of the buffer and answers how many: 0 for a buffer that isn't
+    /// empty is the end. `Failed` comes only with a fault that the source has counted, and takes
+    /// nothing.
     fn read(&mut self, into: &mut [u8]) -> Result<usize, Failed>
         ensures bound { ReadsAtMost result into.new }
         ensures bytes { ReadConsumes (left self.old) (left self.new) result into.new }
@@ -29,8 +33,8 @@ pub trait Sink {
     // How many faults the sink has had.
     ghost faults: { Self → ℕ };
 
-    /// Writes bytes of the front of the piece and answers how many: at least one of a piece that isn't empty.
-    /// `Failed` comes only with a fault that the sink has counted, and adds nothing.
+    /// Writes bytes of the front of the piece and answers how many: at least one of a piece that
+    /// isn't empty. `Failed` comes only with a fault that the sink has counted, and adds nothing.
     fn write(&mut self, from: &[u8]) -> Result<usize, Failed>
         ensures bound { WritesAtMost result from.now }
         ensures some { 0 < length from.now → IfOk result (λ n. 0 < n) }

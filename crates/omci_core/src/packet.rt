@@ -1,14 +1,16 @@
-ghost use Rattle.std.specs.Prelude.{◌≡◌, ◌==◌, ◌+◌, ◌<◌, ◌≤◌, [], ◌∷◌, ◌++◌, length, take, OnOk, OnErr, slice_get};
+//! Packets, and lists of packets.
 
+ghost use Rattle.std.specs.Prelude.{◌≡◌, ◌==◌, ◌+◌, ◌<◌, ◌≤◌, [], ◌∷◌, ◌++◌, length, OnOk, OnErr, slice_get};
+
+use crate::arrays::put_at;
 use crate::errors::NoMemory;
+use frame_spec::MAX_PACKET_BYTES;
 use std::alloc::Global;
 use std::fmt;
 use std::marker::Model;
 
-/// The most bytes of a packet: an extended frame has at most so many.
-pub const MAX_PACKET_BYTES: usize = 1_980;
-
-/// A packet of the OMCI channel: at most 1,980 bytes, in place. Contracts see the list of its bytes.
+/// A packet of the OMCI channel: at most 1,980 bytes, in place. Contracts see the list of its
+/// bytes.
 #[derive(Drop)]
 pub struct Packet {
     bytes: [u8; MAX_PACKET_BYTES],
@@ -17,12 +19,13 @@ pub struct Packet {
 
 impl Model for Packet {
     ghost use Rattle.std.specs.Prelude.{ℕ, ◌≤◌, List, take};
+    ghost use Rattle.frame_spec.specs.declared.TheConstants.{MAX_PACKET_BYTES};
 
     ghost Value = { List ℕ };
 
     ghost view = { λ p. take p.len p.bytes };
 
-    ghost invariant = { λ p. p.len ≤ 1980 };
+    ghost invariant = { λ p. p.len ≤ MAX_PACKET_BYTES };
 }
 
 impl Packet {
@@ -71,7 +74,7 @@ impl Packet {
         requires { length bytes.now ≤ MAX_PACKET_BYTES }
         ensures replaced { self.new ≡ bytes.now }
     {
-        self.bytes[..bytes.len()].copy_from_slice(bytes);
+        put_at(&mut self.bytes, 0, bytes);
         self.len = bytes.len();
     }
 
@@ -99,15 +102,6 @@ impl fmt::Debug for Packet {
     }
 }
 
-/// Writes `bytes` from the place `at` on.
-fn put_at(into: &mut [u8], at: usize, bytes: &[u8])
-    requires { at + length bytes.now ≤ length into.old }
-    ensures front { take (at + length bytes.now) into.new ≡ take at into.old ++ bytes.now }
-    ensures len { length into.new ≡ length into.old }
-{
-    into[at..at + bytes.len()].copy_from_slice(bytes);
-}
-
 /// A list of packets. Contracts see a list of lists of bytes.
 #[derive(Debug, Drop)]
 pub struct Packets {
@@ -132,7 +126,8 @@ impl Packets {
         }
     }
 
-    /// Adds the packet at the end. `NoMemory` where there is no room for it; the list is then as it was.
+    /// Adds the packet at the end. `NoMemory` where there is no room for it; the list is then as it
+    /// was.
     pub fn push(&mut self, packet: Packet) -> Result<(), NoMemory>
         ensures ok { OnOk result (self.new ≡ self.old ++ packet ∷ []) }
         ensures err { OnErr result (self.new ≡ self.old) }

@@ -1,3 +1,5 @@
+//! Lists of byte strings.
+
 ghost use Rattle.std.specs.Prelude.{◌≡◌, ◌==◌, ◌<◌, [], ◌∷◌, ◌++◌, length, OnOk, OnErr, slice_get};
 
 use crate::bytes::Bytes;
@@ -29,7 +31,8 @@ impl Words {
         }
     }
 
-    /// Adds a copy of the word at the end. `NoMemory` where there is no room for it; the list is then as it was.
+    /// Adds a copy of the word at the end. `NoMemory` where there is no room for it; the list is
+    /// then as it was.
     pub fn push(&mut self, word: &[u8]) -> Result<(), NoMemory>
         ensures ok { OnOk result (self.new ≡ self.old ++ word.now ∷ []) }
         ensures err { OnErr result (self.new ≡ self.old) }

@@ -1,7 +1,9 @@
-//! Baseline frames of ITU-T G.988: a frame written as its one spelling of 48 bytes, and read back from it. No call takes memory.
+//! Baseline frames of ITU-T G.988: a frame written as its one spelling of 48 bytes, and read back
+//! from it. No call takes memory.
 //!
-//! Bytes 1 and 2 are the transaction correlation identifier, byte 3 the kind of message, byte 4 the device `0A`, bytes 5 to 8 the entity's class
-//! and instance, bytes 9 to 40 the contents, bytes 41 to 44 the trailer `00 00 00 28`, and bytes 45 to 48 the check value of the bytes before them
+//! Bytes 1 and 2 are the transaction correlation identifier, byte 3 the kind of message, byte 4 the
+//! device `0A`, bytes 5 to 8 the entity's class and instance, bytes 9 to 40 the contents, bytes 41
+//! to 44 the trailer `00 00 00 28`, and bytes 45 to 48 the check value of the bytes before them
 //! (ITU-T I.363.5). Numbers are big-endian.
 #![tactic(auto)]
 
@@ -11,28 +13,16 @@ ghost use Rattle.frame_laws.specs.Faults.{IsDeviceFault, IsShortFault, IsTrailer
 
 mod fields;
 
-use fields::{
-    check_of, contents_at, four_at, number_at, put_check, put_contents, put_kind, put_number,
-    put_trailer,
-};
-pub use frame_spec::FrameFault;
+use fields::{check_of, contents_at, put_check, put_contents, put_kind, put_number, put_trailer};
+pub use fields::{four_at, number_at};
+use frame_spec::{BASELINE_DEVICE, BASELINE_TRAILER, CHECKED_BYTES};
+pub use frame_spec::{FRAME_BYTES, FrameFault};
 pub use omci_types::{EntityId, Frame};
 
-/// The number of bytes of a baseline frame.
-pub const FRAME_LENGTH: usize = 48;
-
-// How many of them the check value is taken of.
-const CHECKED_LENGTH: usize = 44;
-
-// The device identifier of the baseline message set.
-const DEVICE: u8 = 0x0a;
-
-const TRAILER: [u8; 4] = [0, 0, 0, 0x28];
-
 /// Writes the frame's one spelling.
-pub fn encode(frame: &Frame, into: &mut [u8; 48])
+pub fn encode(frame: &Frame, into: &mut [u8; FRAME_BYTES])
     ensures spelled { into.new ≡ spelling frame.now }
-    ensures whole { length into.new ≡ 48 }
+    ensures whole { length into.new ≡ FRAME_BYTES }
 {
     put_number(into, 0, frame.tci);
     put_kind(into, frame.kind);
@@ -47,21 +37,28 @@ pub fn encode(frame: &Frame, into: &mut [u8; 48])
 ///
 /// # Errors
 ///
-/// The first of these that holds: [`FrameFault::Device`] exactly where at least 4 bytes are there and byte 4 isn't `0x0A`; [`FrameFault::Short`]
-/// exactly where fewer than 48 are there; [`FrameFault::Trailer`] exactly where bytes 41 to 44 aren't `00 00 00 28`; [`FrameFault::Check`] exactly
-/// where bytes 45 to 48 aren't the check value of bytes 1 to 44.
+/// The first of these that holds: [`FrameFault::Device`] exactly where at least 4 bytes are there
+/// and byte 4 isn't `0x0A`; [`FrameFault::Short`] exactly where fewer than 48 are there;
+/// [`FrameFault::Trailer`] exactly where bytes 41 to 44 aren't `00 00 00 28`; [`FrameFault::Check`]
+/// exactly where bytes 45 to 48 aren't the check value of bytes 1 to 44.
 pub fn decode(bytes: &[u8]) -> Result<Frame, FrameFault>
     ensures value { result ≡ decoded bytes.now }
 
     // What is read is spelled so, and what is spelled so is read.
-    ensures exact { MatchResult result (λ f. IsFrame f × (take 48 bytes.now ≡ spelling f)) (λ e. fault_of bytes.now ≡ Some e) }
-    ensures only { (f : Frame) → IsFrame f → take 48 bytes.now ≡ spelling f → result ≡ Ok f }
+    ensures exact { MatchResult result (λ f. IsFrame f × (take FRAME_BYTES bytes.now ≡ spelling f))
+        (λ e. fault_of bytes.now ≡ Some e) }
+    ensures only { (f : Frame) → IsFrame f → take FRAME_BYTES bytes.now ≡ spelling f →
+        result ≡ Ok f }
 
     // Which fault it is.
-    ensures device { (byte : ℕ) → (result ≡ Err (FrameFault.Device byte)) ↔ IsDeviceFault bytes.now byte }
-    ensures short { (have : ℕ) → (result ≡ Err (FrameFault.Short have)) ↔ IsShortFault bytes.now have }
-    ensures trailer { (four : List ℕ) → (result ≡ Err (FrameFault.Trailer four)) ↔ IsTrailerFault bytes.now four }
-    ensures check { (given computed : ℕ) → (result ≡ Err (FrameFault.Check given computed)) ↔ IsCheckFault bytes.now given computed }
+    ensures device { (byte : ℕ) → (result ≡ Err (FrameFault.Device byte))
+        ↔ IsDeviceFault bytes.now byte }
+    ensures short { (have : ℕ) → (result ≡ Err (FrameFault.Short have))
+        ↔ IsShortFault bytes.now have }
+    ensures trailer { (four : List ℕ) → (result ≡ Err (FrameFault.Trailer four))
+        ↔ IsTrailerFault bytes.now four }
+    ensures check { (given computed : ℕ) → (result ≡ Err (FrameFault.Check given computed))
+        ↔ IsCheckFault bytes.now given computed }
 {
     match first_fault(bytes) {
         Some(fault) => Err(fault),
@@ -75,18 +72,18 @@ pub fn packet_frame(bytes: &[u8]) -> Option<Frame>
     ensures exact { IfSome result (λ f. IsFrame f × (bytes.now ≡ spelling f)) }
     ensures only { (f : Frame) → IsFrame f → bytes.now ≡ spelling f → result ≡ Some f }
 {
-    if bytes.len() == FRAME_LENGTH {
+    if bytes.len() == FRAME_BYTES {
         decode(bytes).ok()
     } else {
         None
     }
 }
 
-/// What the fields of 48 bytes or more say. Nothing is tested and no check value is computed: this is for packets whose bytes [`encode`] has
-/// written.
+/// What the fields of 48 bytes or more say. Nothing is tested and no check value is computed: this
+/// is for packets whose bytes [`encode`] has written.
 #[tactic(auto, unfolding(frame_spec::specs::Baseline::frame_of))]
 pub fn frame_at(bytes: &[u8]) -> Frame
-    requires { 48 ≤ length bytes.now }
+    requires { FRAME_BYTES ≤ length bytes.now }
     ensures value { result ≡ frame_of bytes.now }
 {
     Frame {
@@ -105,93 +102,20 @@ pub fn frame_at(bytes: &[u8]) -> Frame
 fn first_fault(bytes: &[u8]) -> Option<FrameFault>
     ensures value { result ≡ fault_of bytes.now }
 {
-    if bytes.len() >= 4 && bytes[3] != DEVICE {
+    if bytes.len() >= 4 && bytes[3] != BASELINE_DEVICE {
         return Some(FrameFault::Device { byte: bytes[3] });
     }
-    if bytes.len() < FRAME_LENGTH {
+    if bytes.len() < FRAME_BYTES {
         return Some(FrameFault::Short { have: bytes.len() });
     }
     let trailer = four_at(bytes, 40);
-    if trailer != TRAILER {
+    if trailer != BASELINE_TRAILER {
         return Some(FrameFault::Trailer { bytes: trailer });
     }
-    let given = u32::from_be_bytes(four_at(bytes, CHECKED_LENGTH));
+    let given = u32::from_be_bytes(four_at(bytes, CHECKED_BYTES));
     let computed = check_of(bytes);
     if given != computed {
         return Some(FrameFault::Check { given, computed });
     }
     None
-}
-
-#[cfg(test)]
-mod tests {
-    use super::*;
-
-    // A get of the sync counter, and its 48 bytes. The check value is that of a program that shifts one bit at a time.
-    const GET: Frame = Frame {
-        tci: 1,
-        kind: 0x49,
-        entity: EntityId {
-            class: 2,
-            instance: 0,
-        },
-        contents: [
-            0x80, 0, 0, 0, 0, 0, 0, 0, 0, 0, 0, 0, 0, 0, 0, 0, 0, 0, 0, 0, 0, 0, 0, 0, 0, 0, 0, 0,
-            0, 0, 0, 0,
-        ],
-    };
-
-    const GET_BYTES: [u8; 48] = [
-        0x00, 0x01, 0x49, 0x0a, 0x00, 0x02, 0x00, 0x00, 0x80, 0, 0, 0, 0, 0, 0, 0, 0, 0, 0, 0, 0,
-        0, 0, 0, 0, 0, 0, 0, 0, 0, 0, 0, 0, 0, 0, 0, 0, 0, 0, 0, 0x00, 0x00, 0x00, 0x28, 0x86,
-        0xd7, 0xd0, 0xd6,
-    ];
-
-    #[test]
-    fn writes_and_reads(rt: HostRuntime) {
-        let mut written = [0xee; 48];
-        encode(&GET, &mut written);
-        assert_eq!(rt; written, GET_BYTES);
-        assert_eq!(rt; packet_frame(&written), Some(GET));
-        assert_eq!(rt; frame_at(&written), GET);
-
-        let mut other_value = GET_BYTES;
-        other_value[47] = 0xd7;
-        let mut other_trailer = other_value;
-        other_trailer[43] = 0x29;
-        let mut longer = [0u8; 50];
-        longer[..48].copy_from_slice(&GET_BYTES);
-        let cases: [(&[u8], Result<Frame, FrameFault>); 9] = [
-            (&GET_BYTES, Ok(GET)),
-            (&longer, Ok(GET)),
-            (
-                &other_value,
-                Err(FrameFault::Check {
-                    given: 0x86d7_d0d7,
-                    computed: 0x86d7_d0d6,
-                }),
-            ),
-            (
-                &other_trailer,
-                Err(FrameFault::Trailer {
-                    bytes: [0, 0, 0, 0x29],
-                }),
-            ),
-            (&other_trailer[..47], Err(FrameFault::Short { have: 47 })),
-            (&GET_BYTES[..47], Err(FrameFault::Short { have: 47 })),
-            (&GET_BYTES[..3], Err(FrameFault::Short { have: 3 })),
-            (&[], Err(FrameFault::Short { have: 0 })),
-            (&[0, 1, 0x49, 0x0c], Err(FrameFault::Device { byte: 12 })),
-        ];
-        for (bytes, want) in cases {
-            assert_eq!(rt; decode(bytes), want, "{} bytes", bytes.len());
-            let whole = if bytes.len() == 48 { want.ok() } else { None };
-            assert_eq!(rt;
-                packet_frame(bytes),
-                whole,
-                "{} bytes as a packet",
-                bytes.len()
-            );
-        }
-    }
 }

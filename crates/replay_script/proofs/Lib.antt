@@ -1,5 +1,6 @@
 pub mod Loops
 pub mod Numbers
 pub mod Left
+pub mod Names
 pub mod Faults
 pub mod Public

@@ -4,7 +4,7 @@ use Rattle.std.specs.Prelude.{IfOk, IfErr}
 use Rattle.script_spec.specs.Script.{Script, IsScript}
 use Rattle.script_spec.specs.Grammar.{Writes}
 use Rattle.script_spec.specs.Reading.{reading}
-use Rattle.script_laws.proofs.Parts.{ok_same}
+use Rattle.script_laws.proofs.Forms.{ok_same}
 use Rattle.script_laws.proofs.Scripts.{reading-Writes, Writes-reading, reading_range}
 use Rattle.script_laws.proofs.FaultLaws.{fault_from_reading, reading_from_fault}
 use Rattle.replay_script.specs.declared.refusal.ScriptRefusal.{ScriptRefusal}

@@ -1,7 +1,7 @@
 -- What an event and a header say, apart from where their bytes lie in memory.
 use Rattle.script_spec.specs.Script as spec
 use Rattle.replay_script.specs.declared.script.Event.{Event}
-use Rattle.replay_script.specs.declared.script.Event.TheVariants.{Probe, Reset, Get, Create, Set, Delete, Deliver, Flow}
+use Rattle.replay_script.specs.declared.script.Event.TheVariants.{Probe, Reset, Get, Create, Set, Delete, Deliver, Flow, NoiseUnit, NoiseOlt, Tick, CutUnit, CutOlt, StartUnit, StartOlt}
 use Rattle.replay_script.specs.declared.script.Header.{Header}
 
 abbrev pub action_of : Event → spec.Action
@@ -13,6 +13,13 @@ action_of (Set lane entity mask values) = spec.Set lane entity mask values
 action_of (Delete lane entity) = spec.Delete lane entity
 action_of (Deliver packet) = spec.Deliver packet
 action_of (Flow times) = spec.Flow times
+action_of (NoiseUnit bytes) = spec.NoiseUnit bytes
+action_of (NoiseOlt bytes) = spec.NoiseOlt bytes
+action_of Tick = spec.Tick
+action_of CutUnit = spec.CutUnit
+action_of CutOlt = spec.CutOlt
+action_of StartUnit = spec.StartUnit
+action_of (StartOlt low high) = spec.StartOlt low high
 
 abbrev pub header_of : Header → spec.Header
 header_of header = record { room = header.room; low = header.low; high = header.high; factory = header.factory }

@@ -6,40 +6,39 @@ ghost use Rattle.replay_script.specs.Events.{action_of};
 use crate::refusal::LineRefusal;
 use crate::script::Event;
 use crate::words::LineWords;
-use script_spec::Keyword;
+use omci_core::EntityId;
+use script_spec::{LAST_PACKET, Line, MAX_CREATE, MAX_FLOW, MAX_SET};
 use std::alloc::Global;
-
-/// The most bytes of values that a create has.
-const MAX_CREATE_BYTES: usize = 32;
-/// The most bytes of values that a set has.
-const MAX_SET_BYTES: usize = 30;
-/// The largest number of 18 digits.
-const LAST_PACKET: u64 = 999_999_999_999_999_999;
-/// The most packets that one line lets flow.
-const MAX_FLOW: u64 = 65_536;
 
 /// The event that a line of these words asks for.
 #[tactic(auto, unfolding(script_spec::specs::Reading::line_action))]
 pub(crate) fn event_of(alloc: Global, mut words: LineWords<'_>) -> Result<Event, LineRefusal>
     ensures value { Gives action_of result (line_action words.entry) }
 {
-    let keyword = words.keyword()?;
-    match keyword {
-        Keyword::Probe => probe_event(words),
-        Keyword::Get => get_event(words),
-        Keyword::Create => create_event(alloc, words),
-        Keyword::Set => set_event(alloc, words),
-        Keyword::Delete => delete_event(words),
-        Keyword::Reset => reset_event(words),
-        Keyword::Deliver => deliver_event(words),
-        Keyword::Flow => flow_event(words),
+    let line = words.line()?;
+    match line {
+        Line::Probe => probe_event(words),
+        Line::Reset => reset_event(words),
+        Line::Get => get_event(words),
+        Line::Create => create_event(alloc, words),
+        Line::Set => set_event(alloc, words),
+        Line::Delete => delete_event(words),
+        Line::Deliver => deliver_event(words),
+        Line::Flow => flow_event(words),
+        Line::NoiseUnit => noise_unit_event(alloc, words),
+        Line::NoiseOlt => noise_olt_event(alloc, words),
+        Line::Tick => tick_event(words),
+        Line::CutUnit => cut_unit_event(words),
+        Line::CutOlt => cut_olt_event(words),
+        Line::StartUnit => start_unit_event(words),
+        Line::StartOlt => start_olt_event(words),
     }
 }
 
 /// The words after `probe`: LANE.
 #[tactic(auto, unfolding(script_spec::specs::Reading::action_at))]
 fn probe_event(mut words: LineWords<'_>) -> Result<Event, LineRefusal>
-    ensures value { Gives action_of result (action_at Keyword.Probe words.entry) }
+    ensures value { Gives action_of result (action_at Line.Probe words.entry) }
 {
     words.expect(1)?;
     Ok(Event::Probe {
@@ -47,62 +46,10 @@ fn probe_event(mut words: LineWords<'_>) -> Result<Event, LineRefusal>
     })
 }
 
-/// The words after `get`: LANE CLASS INSTANCE MASK.
-#[tactic(auto, unfolding(script_spec::specs::Reading::action_at))]
-fn get_event(mut words: LineWords<'_>) -> Result<Event, LineRefusal>
-    ensures value { Gives action_of result (action_at Keyword.Get words.entry) }
-{
-    words.expect(4)?;
-    Ok(Event::Get {
-        lane: words.lane()?,
-        entity: words.entity()?,
-        mask: words.mask()?,
-    })
-}
-
-/// The words after `create`: LANE CLASS INSTANCE HEX.
-#[tactic(auto, unfolding(script_spec::specs::Reading::action_at))]
-fn create_event(alloc: Global, mut words: LineWords<'_>) -> Result<Event, LineRefusal>
-    ensures value { Gives action_of result (action_at Keyword.Create words.entry) }
-{
-    words.expect(4)?;
-    Ok(Event::Create {
-        lane: words.lane()?,
-        entity: words.entity()?,
-        values: words.bytes(alloc, 0, MAX_CREATE_BYTES)?,
-    })
-}
-
-/// The words after `set`: LANE CLASS INSTANCE MASK HEX.
-#[tactic(auto, unfolding(script_spec::specs::Reading::action_at))]
-fn set_event(alloc: Global, mut words: LineWords<'_>) -> Result<Event, LineRefusal>
-    ensures value { Gives action_of result (action_at Keyword.Set words.entry) }
-{
-    words.expect(5)?;
-    Ok(Event::Set {
-        lane: words.lane()?,
-        entity: words.entity()?,
-        mask: words.mask()?,
-        values: words.bytes(alloc, 0, MAX_SET_BYTES)?,
-    })
-}
-
-/// The words after `delete`: LANE CLASS INSTANCE.
-#[tactic(auto, unfolding(script_spec::specs::Reading::action_at))]
-fn delete_event(mut words: LineWords<'_>) -> Result<Event, LineRefusal>
-    ensures value { Gives action_of result (action_at Keyword.Delete words.entry) }
-{
-    words.expect(3)?;
-    Ok(Event::Delete {
-        lane: words.lane()?,
-        entity: words.entity()?,
-    })
-}
-
 /// The words after `reset`: LANE.
 #[tactic(auto, unfolding(script_spec::specs::Reading::action_at))]
 fn reset_event(mut words: LineWords<'_>) -> Result<Event, LineRefusal>
-    ensures value { Gives action_of result (action_at Keyword.Reset words.entry) }
+    ensures value { Gives action_of result (action_at Line.Reset words.entry) }
 {
     words.expect(1)?;
     Ok(Event::Reset {
@@ -110,10 +57,74 @@ fn reset_event(mut words: LineWords<'_>) -> Result<Event, LineRefusal>
     })
 }
 
+/// The words after `get`: LANE CLASS INSTANCE MASK.
+#[tactic(auto, unfolding(script_spec::specs::Reading::action_at))]
+fn get_event(mut words: LineWords<'_>) -> Result<Event, LineRefusal>
+    ensures value { Gives action_of result (action_at Line.Get words.entry) }
+{
+    words.expect(4)?;
+    Ok(Event::Get {
+        lane: words.lane()?,
+        entity: EntityId {
+            class: words.id()?,
+            instance: words.id()?,
+        },
+        mask: words.mask()?,
+    })
+}
+
+/// The words after `create`: LANE CLASS INSTANCE HEX.
+#[tactic(auto, unfolding(script_spec::specs::Reading::action_at))]
+fn create_event(alloc: Global, mut words: LineWords<'_>) -> Result<Event, LineRefusal>
+    ensures value { Gives action_of result (action_at Line.Create words.entry) }
+{
+    words.expect(4)?;
+    Ok(Event::Create {
+        lane: words.lane()?,
+        entity: EntityId {
+            class: words.id()?,
+            instance: words.id()?,
+        },
+        values: words.bytes(alloc, 0, MAX_CREATE)?,
+    })
+}
+
+/// The words after `set`: LANE CLASS INSTANCE MASK HEX.
+#[tactic(auto, unfolding(script_spec::specs::Reading::action_at))]
+fn set_event(alloc: Global, mut words: LineWords<'_>) -> Result<Event, LineRefusal>
+    ensures value { Gives action_of result (action_at Line.Set words.entry) }
+{
+    words.expect(5)?;
+    Ok(Event::Set {
+        lane: words.lane()?,
+        entity: EntityId {
+            class: words.id()?,
+            instance: words.id()?,
+        },
+        mask: words.mask()?,
+        values: words.bytes(alloc, 0, MAX_SET)?,
+    })
+}
+
+/// The words after `delete`: LANE CLASS INSTANCE.
+#[tactic(auto, unfolding(script_spec::specs::Reading::action_at))]
+fn delete_event(mut words: LineWords<'_>) -> Result<Event, LineRefusal>
+    ensures value { Gives action_of result (action_at Line.Delete words.entry) }
+{
+    words.expect(3)?;
+    Ok(Event::Delete {
+        lane: words.lane()?,
+        entity: EntityId {
+            class: words.id()?,
+            instance: words.id()?,
+        },
+    })
+}
+
 /// The word after `deliver`: the packet's number.
 #[tactic(auto, unfolding(script_spec::specs::Reading::action_at))]
 fn deliver_event(mut words: LineWords<'_>) -> Result<Event, LineRefusal>
-    ensures value { Gives action_of result (action_at Keyword.Deliver words.entry) }
+    ensures value { Gives action_of result (action_at Line.Deliver words.entry) }
 {
     words.expect(1)?;
     Ok(Event::Deliver {
@@ -124,10 +135,80 @@ fn deliver_event(mut words: LineWords<'_>) -> Result<Event, LineRefusal>
 /// The word after `flow`: how many packets at most.
 #[tactic(auto, unfolding(script_spec::specs::Reading::action_at))]
 fn flow_event(mut words: LineWords<'_>) -> Result<Event, LineRefusal>
-    ensures value { Gives action_of result (action_at Keyword.Flow words.entry) }
+    ensures value { Gives action_of result (action_at Line.Flow words.entry) }
 {
     words.expect(1)?;
     Ok(Event::Flow {
         times: words.number(1, MAX_FLOW)? as u32,
+    })
+}
+
+/// The word after `noise unit`: the bytes.
+#[tactic(auto, unfolding(script_spec::specs::Reading::action_at))]
+fn noise_unit_event(alloc: Global, mut words: LineWords<'_>) -> Result<Event, LineRefusal>
+    ensures value { Gives action_of result (action_at Line.NoiseUnit words.entry) }
+{
+    words.expect(1)?;
+    Ok(Event::NoiseUnit {
+        bytes: words.noise(alloc)?,
+    })
+}
+
+/// The word after `noise olt`: the bytes.
+#[tactic(auto, unfolding(script_spec::specs::Reading::action_at))]
+fn noise_olt_event(alloc: Global, mut words: LineWords<'_>) -> Result<Event, LineRefusal>
+    ensures value { Gives action_of result (action_at Line.NoiseOlt words.entry) }
+{
+    words.expect(1)?;
+    Ok(Event::NoiseOlt {
+        bytes: words.noise(alloc)?,
+    })
+}
+
+/// No word stands after `tick`.
+#[tactic(auto, unfolding(script_spec::specs::Reading::action_at))]
+fn tick_event(words: LineWords<'_>) -> Result<Event, LineRefusal>
+    ensures value { Gives action_of result (action_at Line.Tick words.entry) }
+{
+    words.expect(0)?;
+    Ok(Event::Tick)
+}
+
+/// No word stands after `cut unit`.
+#[tactic(auto, unfolding(script_spec::specs::Reading::action_at))]
+fn cut_unit_event(words: LineWords<'_>) -> Result<Event, LineRefusal>
+    ensures value { Gives action_of result (action_at Line.CutUnit words.entry) }
+{
+    words.expect(0)?;
+    Ok(Event::CutUnit)
+}
+
+/// No word stands after `cut olt`.
+#[tactic(auto, unfolding(script_spec::specs::Reading::action_at))]
+fn cut_olt_event(words: LineWords<'_>) -> Result<Event, LineRefusal>
+    ensures value { Gives action_of result (action_at Line.CutOlt words.entry) }
+{
+    words.expect(0)?;
+    Ok(Event::CutOlt)
+}
+
+/// No word stands after `start unit`.
+#[tactic(auto, unfolding(script_spec::specs::Reading::action_at))]
+fn start_unit_event(words: LineWords<'_>) -> Result<Event, LineRefusal>
+    ensures value { Gives action_of result (action_at Line.StartUnit words.entry) }
+{
+    words.expect(0)?;
+    Ok(Event::StartUnit)
+}
+
+/// The words after `start olt`: the lanes' first numbers.
+#[tactic(auto, unfolding(script_spec::specs::Reading::action_at))]
+fn start_olt_event(mut words: LineWords<'_>) -> Result<Event, LineRefusal>
+    ensures value { Gives action_of result (action_at Line.StartOlt words.entry) }
+{
+    words.expect(2)?;
+    Ok(Event::StartOlt {
+        low: words.lane_number()?,
+        high: words.lane_number()?,
     })
 }

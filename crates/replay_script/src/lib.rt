@@ -12,6 +12,3 @@ mod words;
 pub use reading::read;
 pub use refusal::ScriptRefusal;
 pub use script::{Event, Header, Script};
-
-#[cfg(test)]
-mod tests;

@@ -12,14 +12,8 @@ use crate::lines::{is_passed_over, next_line};
 use crate::refusal::{LineRefusal, ScriptRefusal};
 use crate::script::{Event, Header, Script};
 use crate::words::LineWords;
+use script_spec::{HEADER_FAULT, MAX_ROOM};
 use std::alloc::Global;
-
-/// The reason of each fault of a header.
-const HEADER_REASON: u8 = 4;
-/// The most bytes that an image slot has room for.
-const MAX_ROOM: u64 = 1_048_576;
-/// The last number of a lane.
-const LAST_NUMBER: u64 = 32_767;
 
 /// Reads a script, all of the bytes, in one pass.
 ///
@@ -59,7 +53,7 @@ fn script_of(alloc: Global, bytes: &[u8]) -> Result<Script, ScriptRefusal>
     }
     Err(ScriptRefusal::Fault {
         line,
-        reason: HEADER_REASON,
+        reason: HEADER_FAULT,
     })
 }
 
@@ -71,7 +65,7 @@ fn header_on(alloc: Global, line: u64, text: &[u8]) -> Result<Header, ScriptRefu
         Ok(header) => Ok(header),
         Err(LineRefusal::Reason(_)) => Err(ScriptRefusal::Fault {
             line,
-            reason: HEADER_REASON,
+            reason: HEADER_FAULT,
         }),
         Err(LineRefusal::NoMemory) => Err(ScriptRefusal::NoMemory),
     }
@@ -82,12 +76,12 @@ fn header_on(alloc: Global, line: u64, text: &[u8]) -> Result<Header, ScriptRefu
 fn header_of(alloc: Global, mut words: LineWords<'_>) -> Result<Header, LineRefusal>
     ensures value { Gives header_of result (header_at words.entry) }
 {
-    words.expect(6)?;
     words.literal(b"omci")?;
     words.literal(b"1")?;
+    words.expect(4)?;
     let room = words.number(1, MAX_ROOM)? as u32;
-    let low = words.number(1, LAST_NUMBER)? as u16;
-    let high = words.number(1, LAST_NUMBER)? as u16;
+    let low = words.lane_number()?;
+    let high = words.lane_number()?;
     let factory = words.bytes(alloc, 1, room as usize)?;
     Ok(Header {
         room,

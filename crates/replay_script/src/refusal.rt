@@ -1,6 +1,7 @@
 ghost use Rattle.std.specs.Prelude.{◌≡◌};
 ghost use Rattle.replay_script.specs.declared.refusal.ScriptRefusal.TheVariants.{NoMemory};
 
+use script_spec::{HEX_FAULT, NOISE_FAULT, NUMBER_FAULT, WORD_FAULT};
 use std::alloc::AllocFailed;
 use thiserror::Error;
 
@@ -9,7 +10,7 @@ use thiserror::Error;
 pub enum ScriptRefusal {
     /// The first fault: the line's number, from 1, and the reason. 1 is an unknown word, a missing word or one too
     /// many; 2 a number that is malformed or out of range; 3 hex that is malformed or of a length that isn't
-    /// allowed; 4 a header that is missing or has any fault.
+    /// allowed; 4 a header that is missing or has any fault; 5 noise that decodes as a frame.
     #[error("line {line}: reason {reason}")]
     Fault { line: u64, reason: u8 },
     /// There was no memory for what the script says.
@@ -34,9 +35,11 @@ pub(crate) enum LineRefusal {
 
 impl LineRefusal {
     /// A word that is unknown, missing or one too many.
-    pub(crate) const WORD: LineRefusal = LineRefusal::Reason(1);
+    pub(crate) const WORD: LineRefusal = LineRefusal::Reason(WORD_FAULT);
     /// A number that is malformed or out of range.
-    pub(crate) const NUMBER: LineRefusal = LineRefusal::Reason(2);
+    pub(crate) const NUMBER: LineRefusal = LineRefusal::Reason(NUMBER_FAULT);
     /// Hex that is malformed or of a length that isn't allowed.
-    pub(crate) const HEX: LineRefusal = LineRefusal::Reason(3);
+    pub(crate) const HEX: LineRefusal = LineRefusal::Reason(HEX_FAULT);
+    /// Noise that decodes as a frame.
+    pub(crate) const NOISE: LineRefusal = LineRefusal::Reason(NOISE_FAULT);
 }

@@ -62,6 +62,27 @@ pub enum Event {
     Flow {
         times: u32,
     },
+    /// Noise comes to the unit: at most 4,096 bytes that don't decode as a frame.
+    NoiseUnit {
+        bytes: Bytes,
+    },
+    /// Noise comes to the manager: at most 4,096 bytes that don't decode as a frame.
+    NoiseOlt {
+        bytes: Bytes,
+    },
+    /// A second passes.
+    Tick,
+    /// The unit loses its power.
+    CutUnit,
+    /// The manager loses its power.
+    CutOlt,
+    /// The unit gets its power back.
+    StartUnit,
+    /// The manager gets its power back, and its two lanes begin with these numbers, 1 to 32,767 each.
+    StartOlt {
+        low: u16,
+        high: u16,
+    },
 }
 
 /// A script: a header, and events. Contracts see what it says, and each of its numbers and bytes is in its range.

@@ -1,22 +1,20 @@
-ghost use Rattle.std.specs.Prelude.{◌≡◌, ◌==◌, ◌≤◌, ◌∷◌, if◌then◌else◌, IfOk, length, true, Some, None};
+ghost use Rattle.std.specs.Prelude.{◌≡◌, ◌==◌, ◌≤◌, [], ◌∷◌, if◌then◌else◌, IfOk, length, true, Some, None};
 ghost use Rattle.std.specs.List.{AllPass, list_all, count_by};
 ghost use Rattle.std.specs.Char.{is_ascii_digit};
-ghost use Rattle.script_spec.specs.Text.{words_of, decimal_value, is_numeral, hex_bytes, mask_of, keyword_of};
-ghost use Rattle.script_spec.specs.Reading.{word_at, counted, literal_at, lane_at, number_at, mask_at, bytes_at, entity_at, keyword_at, bytes_of, or_reason};
+ghost use Rattle.script_spec.specs.Fields.{Lane as LaneSaid, Number as NumberSaid, Bytes as BytesSaid, LaneName, Decimal, MaskDigits, HexBytes, NoiseBytes};
+ghost use Rattle.script_spec.specs.Text.{words_of, after_name, decimal_value, is_numeral, hex_bytes, mask_of};
+ghost use Rattle.script_spec.specs.Reading.{word_at, counted, field_at, line_at, or_among, lane_of, bytes_of, noise_of, or_reason};
+ghost use Rattle.script_spec.specs.declared.TheConstants.{WORD_FAULT, HEX_FAULT};
 ghost use Rattle.std.specs.Option.{option_copied};
-ghost use Rattle.replay_script.specs.Answers.{Gives, words_left};
+ghost use Rattle.replay_script.specs.Answers.{Gives, words_left, end_named};
 
 use crate::lines::place_of;
 use crate::refusal::LineRefusal;
-use omci_core::{Bytes, EntityId, Priority};
-use script_spec::Keyword;
+use omci_core::{Bytes, Priority};
+use omci_frames::decode;
+use script_spec::{LAST_NUMBER, Line, MAX_DIGITS, MAX_ID, MAX_NOISE};
 use std::alloc::Global;
 use std::marker::Model;
-
-/// A number has at most so many digits.
-const MAX_DIGITS: usize = 18;
-/// The largest class, and the largest instance.
-const MAX_ID: u64 = 65_535;
 
 /// The words of a line that are still to be read. Words are parted by single spaces.
 #[derive(Drop)]
@@ -78,9 +76,9 @@ impl<'a> LineWords<'a> {
     }
 
     /// A word that has to be this text.
-    #[tactic(auto, unfolding(script_spec::specs::Reading::literal_at, script_spec::specs::Reading::word_at))]
+    #[tactic(auto, unfolding(script_spec::specs::Reading::word_at))]
     pub(crate) fn literal(&mut self, text: &[u8]) -> Result<(), LineRefusal>
-        ensures value { Gives (λ _. self.new) result (literal_at text.now self.old) }
+        ensures value { Gives (λ _. self.new) result (or_reason WORD_FAULT (after_name (text.now ∷ []) self.old)) }
     {
         let word = self.word()?;
         if word == text {
@@ -90,31 +88,59 @@ impl<'a> LineWords<'a> {
         }
     }
 
-    /// The keyword of an event's line.
-    #[tactic(auto, unfolding(script_spec::specs::Reading::keyword_at))]
-    pub(crate) fn keyword(&mut self) -> Result<Keyword, LineRefusal>
-        ensures value { Gives (λ keyword. (keyword, self.new)) result (keyword_at self.old) }
+    /// The kind of line that the words name.
+    #[tactic(auto, unfolding(script_spec::specs::Reading::line_at, script_spec::specs::Reading::line_named, script_spec::specs::Reading::word_at))]
+    pub(crate) fn line(&mut self) -> Result<Line, LineRefusal>
+        ensures value { Gives (λ line. (line, self.new)) result (line_at self.old) }
     {
         let word = self.word()?;
-        keyword_of(word).ok_or(LineRefusal::WORD)
+        match word {
+            b"probe" => Ok(Line::Probe),
+            b"reset" => Ok(Line::Reset),
+            b"get" => Ok(Line::Get),
+            b"create" => Ok(Line::Create),
+            b"set" => Ok(Line::Set),
+            b"delete" => Ok(Line::Delete),
+            b"deliver" => Ok(Line::Deliver),
+            b"flow" => Ok(Line::Flow),
+            b"noise" => self.end(Line::NoiseUnit, Line::NoiseOlt),
+            b"tick" => Ok(Line::Tick),
+            b"cut" => self.end(Line::CutUnit, Line::CutOlt),
+            b"start" => self.end(Line::StartUnit, Line::StartOlt),
+            _ => Err(LineRefusal::WORD),
+        }
     }
 
-    /// The name of a lane. Scripts name the low lane alone.
-    #[tactic(auto, unfolding(script_spec::specs::Reading::lane_at))]
+    /// One of two kinds of line, by the end of the channel that a word names.
+    #[tactic(auto, unfolding(script_spec::specs::Reading::word_at))]
+    fn end(&mut self, unit: Line, olt: Line) -> Result<Line, LineRefusal>
+        ensures value { Gives (λ line. (line, self.new)) result (or_reason WORD_FAULT (end_named unit olt self.old)) }
+    {
+        let word = self.word()?;
+        match word {
+            b"unit" => Ok(unit),
+            b"olt" => Ok(olt),
+            _ => Err(LineRefusal::WORD),
+        }
+    }
+
+    /// The name of a lane.
+    #[tactic(auto, unfolding(script_spec::specs::Reading::field_at, script_spec::specs::Reading::word_value))]
     pub(crate) fn lane(&mut self) -> Result<Priority, LineRefusal>
-        ensures value { Gives (λ lane. (lane, self.new)) result (lane_at self.old) }
+        ensures value { Gives (λ lane. (LaneSaid lane, self.new)) result (field_at LaneName self.old) }
     {
         let word = self.word()?;
         match word {
             b"low" => Ok(Priority::Low),
+            b"high" => Ok(Priority::High),
             _ => Err(LineRefusal::WORD),
         }
     }
 
     /// A decimal number within its bounds.
-    #[tactic(auto, unfolding(script_spec::specs::Reading::number_at))]
+    #[tactic(auto, unfolding(script_spec::specs::Reading::field_at, script_spec::specs::Reading::word_value))]
     pub(crate) fn number(&mut self, lowest: u64, highest: u64) -> Result<u64, LineRefusal>
-        ensures value { Gives (λ number. (number, self.new)) result (number_at lowest highest self.old) }
+        ensures value { Gives (λ number. (NumberSaid number, self.new)) result (field_at (Decimal lowest highest) self.old) }
         ensures low { IfOk result (λ number. lowest ≤ number) }
         ensures high { IfOk result (λ number. number ≤ highest) }
     {
@@ -125,37 +151,50 @@ impl<'a> LineWords<'a> {
         }
     }
 
-    /// A class and an instance.
-    #[tactic(auto, unfolding(script_spec::specs::Reading::entity_at))]
-    pub(crate) fn entity(&mut self) -> Result<EntityId, LineRefusal>
-        ensures value { Gives (λ entity. (entity, self.new)) result (entity_at self.old) }
+    /// A class, or an instance.
+    pub(crate) fn id(&mut self) -> Result<u16, LineRefusal>
+        ensures value { Gives (λ number. (NumberSaid number, self.new)) result (field_at (Decimal 0 MAX_ID) self.old) }
     {
-        let class = self.number(0, MAX_ID)? as u16;
-        let instance = self.number(0, MAX_ID)? as u16;
-        Ok(EntityId { class, instance })
+        Ok(self.number(0, MAX_ID)? as u16)
+    }
+
+    /// The first number of a lane.
+    pub(crate) fn lane_number(&mut self) -> Result<u16, LineRefusal>
+        ensures value { Gives (λ number. (NumberSaid number, self.new)) result (field_at (Decimal 1 LAST_NUMBER) self.old) }
+    {
+        Ok(self.number(1, LAST_NUMBER)? as u16)
     }
 
     /// A mask of exactly four hex digits.
-    #[tactic(auto, unfolding(script_spec::specs::Reading::mask_at))]
+    #[tactic(auto, unfolding(script_spec::specs::Reading::field_at, script_spec::specs::Reading::word_value))]
     pub(crate) fn mask(&mut self) -> Result<u16, LineRefusal>
-        ensures value { Gives (λ mask. (mask, self.new)) result (mask_at self.old) }
+        ensures value { Gives (λ mask. (NumberSaid mask, self.new)) result (field_at MaskDigits self.old) }
     {
         let word = self.word()?;
         mask_of(word).ok_or(LineRefusal::HEX)
     }
 
     /// Bytes in hex, of a number within its bounds.
-    #[tactic(auto, unfolding(script_spec::specs::Reading::bytes_at))]
+    #[tactic(auto, unfolding(script_spec::specs::Reading::field_at, script_spec::specs::Reading::word_value))]
     pub(crate) fn bytes(
         &mut self,
         alloc: Global,
         fewest: usize,
         most: usize,
     ) -> Result<Bytes, LineRefusal>
-        ensures value { Gives (λ bytes. (bytes, self.new)) result (bytes_at fewest most self.old) }
+        ensures value { Gives (λ bytes. (BytesSaid bytes, self.new)) result (field_at (HexBytes fewest most) self.old) }
     {
         let word = self.word()?;
         bytes_of(alloc, fewest, most, word)
+    }
+
+    /// Bytes in hex that don't decode as a frame.
+    #[tactic(auto, unfolding(script_spec::specs::Reading::field_at, script_spec::specs::Reading::word_value))]
+    pub(crate) fn noise(&mut self, alloc: Global) -> Result<Bytes, LineRefusal>
+        ensures value { Gives (λ bytes. (BytesSaid bytes, self.new)) result (field_at (NoiseBytes MAX_NOISE) self.old) }
+    {
+        let word = self.word()?;
+        noise_of(alloc, MAX_NOISE, word)
     }
 }
 
@@ -184,25 +223,7 @@ fn first_word(text: &[u8]) -> (&[u8], Option<&[u8]>)
     }
 }
 
-/// The keyword that a word is.
-#[tactic(auto, unfolding(script_spec::specs::Text::keyword_of))]
-fn keyword_of(word: &[u8]) -> Option<Keyword>
-    ensures value { result ≡ keyword_of word.now }
-{
-    match word {
-        b"probe" => Some(Keyword::Probe),
-        b"get" => Some(Keyword::Get),
-        b"create" => Some(Keyword::Create),
-        b"set" => Some(Keyword::Set),
-        b"delete" => Some(Keyword::Delete),
-        b"reset" => Some(Keyword::Reset),
-        b"deliver" => Some(Keyword::Deliver),
-        b"flow" => Some(Keyword::Flow),
-        _ => None,
-    }
-}
-
-/// The number of 1 to 18 decimal digits.
+/// The number of 1 to `MAX_DIGITS` decimal digits.
 fn numeral(word: &[u8]) -> Option<u64>
     ensures value { result ≡ (if is_numeral word.now then Some (decimal_value word.now) else None) }
 {
@@ -223,7 +244,7 @@ fn are_digits(word: &[u8]) -> bool
 /// The number of decimal digits.
 #[tactic(auto, unfolding(script_spec::specs::Text::decimal_value))]
 fn decimal(digits: &[u8]) -> u64
-    requires few { length digits.now ≤ 18 }
+    requires few { length digits.now ≤ MAX_DIGITS }
     requires digits { AllPass is_ascii_digit digits.now }
     ensures value { result ≡ decimal_value digits.now }
 {
@@ -248,7 +269,7 @@ fn mask_of(word: &[u8]) -> Option<u16>
 
 /// Bytes in hex, of a number within its bounds.
 fn bytes_of(alloc: Global, fewest: usize, most: usize, word: &[u8]) -> Result<Bytes, LineRefusal>
-    ensures value { Gives (λ bytes. bytes) result (or_reason 3 (bytes_of fewest most word.now)) }
+    ensures value { Gives (λ bytes. bytes) result (or_reason HEX_FAULT (bytes_of fewest most word.now)) }
 {
     let bytes = hex_bytes(alloc, word)?;
     if bytes.len() < fewest || bytes.len() > most {
@@ -257,10 +278,22 @@ fn bytes_of(alloc: Global, fewest: usize, most: usize, word: &[u8]) -> Result<By
     Ok(bytes)
 }
 
+/// Bytes in hex, at most so many, that don't decode as a frame.
+#[tactic(auto, unfolding(frame_spec::specs::Baseline::decoded))]
+fn noise_of(alloc: Global, most: usize, word: &[u8]) -> Result<Bytes, LineRefusal>
+    ensures value { Gives (λ bytes. bytes) result (noise_of most word.now) }
+{
+    let bytes = bytes_of(alloc, 0, most, word)?;
+    match decode(bytes.bytes()) {
+        Ok(_) => Err(LineRefusal::NOISE),
+        Err(_) => Ok(bytes),
+    }
+}
+
 /// The bytes that hex digits stand for, two digits for each byte; `-` stands for no byte.
 #[tactic(auto, unfolding(script_spec::specs::Text::hex_bytes))]
 fn hex_bytes(alloc: Global, word: &[u8]) -> Result<Bytes, LineRefusal>
-    ensures value { Gives (λ bytes. bytes) result (or_reason 3 (hex_bytes word.now)) }
+    ensures value { Gives (λ bytes. bytes) result (or_reason HEX_FAULT (hex_bytes word.now)) }
 {
     if word.is_empty() {
         return Err(LineRefusal::HEX);

@@ -1,11 +1,11 @@
-pub mod Rows
 pub mod Lines
 pub mod Words
 pub mod Places
-pub mod Parts
-pub mod Actions
-pub mod Headers
-pub mod Ranges
+pub mod Forms
+pub mod Fields
+pub mod Table
 pub mod Texts
+pub mod Ranges
 pub mod Scripts
 pub mod FaultLaws
+pub mod Rows

@@ -2,9 +2,9 @@
 use Rattle.std.proofs.Common.{◌≡◌, ℕ, ◌+◌, Bool, true, false, cond, List, [], ◌∷◌, ◌⊎◌, inl, inr, Option, Some, None, Ok, refl, sym, ap, ◌∙◌, subst}
 use Rattle.script_spec.specs.Script.{Action, Header, Script, IsScript}
 use Rattle.script_spec.specs.Text.{lines_of, words_of, is_passed_over}
-use Rattle.script_spec.specs.Grammar.{BeginsWithLine, IsPassedOver, SpellsAll, line_words, WritesActions, no_line, passed_line, action_line, WritesScript, passed_before, header_line, Writes}
+use Rattle.script_spec.specs.Grammar.{BeginsWithLine, IsPassedOver, SpellsAction, WritesActions, no_line, passed_line, action_line, WritesScript, passed_before, header_line, Writes}
 use Rattle.script_spec.specs.Reading.{◌>>=◌, line_action, header_at, event_at, on_line, as_header, events_reading, script_with, script_reading, reading, with_action}
-use Rattle.script_laws.proofs.Parts.{bind_ok, ok_same}
+use Rattle.script_laws.proofs.Forms.{bind_ok, ok_same}
 use Rattle.script_laws.proofs.Lines.{has_line, lines_of-line, line_from_lines, no_lines}
 use Rattle.script_laws.proofs.Ranges.{on_line_ok, as_header_ok, read_header_range, read_actions_range}
 use Rattle.script_laws.proofs.Texts.{text_spells, text_spelled, text_header, header_text, passed_true, passed_is, action_not_passed, header_not_passed}
@@ -20,12 +20,12 @@ unfolding event_at
 event_read text action plain h = rw (plain, h) refl
 
 -- a line of an event asks for nothing and is passed over, or its text is that of an action
-event_cases : (text : List ℕ) (found : Option Action) → event_at text ≡ Ok found → ((found ≡ None) × IsPassedOver text) ⊎ ((action : Action) × (found ≡ Some action) × SpellsAll (line_words action) text)
+event_cases : (text : List ℕ) (found : Option Action) → event_at text ≡ Ok found → ((found ≡ None) × IsPassedOver text) ⊎ ((action : Action) × (found ≡ Some action) × SpellsAction action text)
 unfolding event_at
 event_cases text found h = by_test (is_passed_over text) refl h
   where
     by_test : (b : Bool) → is_passed_over text ≡ b → cond b (Ok None) (line_action (words_of text) >>= λ a. Ok (Some a)) ≡ Ok found
-        → ((found ≡ None) × IsPassedOver text) ⊎ ((action : Action) × (found ≡ Some action) × SpellsAll (line_words action) text)
+        → ((found ≡ None) × IsPassedOver text) ⊎ ((action : Action) × (found ≡ Some action) × SpellsAction action text)
     by_test true e h = inl (sym (ok_same h), passed_is text e)
     by_test false e h =
         let a = bind_ok (line_action (words_of text)) _ found h in

@@ -1,122 +1,135 @@
--- A line's text, and the words of which the grammar makes it.
-use Rattle.std.proofs.Common.{◌≡◌, ℕ, ◌==◌, true, false, not, List, [], ◌∷◌, inl, inr, Ok, refl, sym, ap, ◌∙◌, subst}
-use Rattle.std.specs.Prelude.{codes}
-use Rattle.std.specs.List.{All, AllPass, list_all, join_with_byte}
-use Rattle.std.specs.Char.{is_ascii_digit}
-use Rattle.std.proofs.lemmas.Bool.{and_parts, false≢true, eqb-true}
-use Rattle.std.proofs.lemmas.List.Elements.{All-nil, All-cons, All-weaker}
-use Rattle.hex.specs.Hex.{decode_of, is_hex_digit}
-use Rattle.hex.proofs.HexLemmas.{decode_of-ok}
-use Rattle.omci_types.specs.declared.Priority.{Priority}
-use Rattle.omci_types.specs.declared.Priority.TheVariants.{Low, High}
-use Rattle.script_spec.specs.declared.Keyword.{Keyword}
-use Rattle.script_spec.specs.declared.Keyword.TheVariants as keyword
-use Rattle.script_spec.specs.Script.{Action, Probe, Get, Create, Set, Delete, Reset, Deliver, Flow, Header}
-use Rattle.script_spec.specs.Text.{words_of, is_passed_over}
-use Rattle.script_spec.specs.Grammar.{Word, Literal, Lane, Number, Mask, Bytes, SpellsBytes, SpellsLane, Spells, SpellEach, SpellsAll, line_words, header_words, IsPassedOver}
-use Rattle.script_spec.specs.Reading.{line_action, header_at}
-use Rattle.script_laws.proofs.Words.{NotSpace, IsOneWord, words_of-joined, joined-words_of}
-use Rattle.script_laws.proofs.Actions.{keyword_text, keyword_for, after_keyword, line_words-parts, line_spells, line_spelled}
-use Rattle.script_laws.proofs.Headers.{header_spells, header_spelled}
+-- A line's text: the words that reading finds in it, and the words of which the grammar makes it.
+use Rattle.std.proofs.Common.{◌≡◌, ℕ, ◌==◌, true, false, List, [], ◌∷◌, ◌++◌, length, inl, inr, Option, Some, None, Result, Ok, Err, refl, sym, ap, ◌∙◌, subst}
+use Rattle.std.specs.List.{join_with_byte}
+use Rattle.std.proofs.lemmas.Bool.{eqb-true}
+use Rattle.script_spec.specs.declared.Line.{Line}
+use Rattle.script_spec.specs.declared.TheConstants.{WORD_FAULT}
+use Rattle.script_spec.specs.Fields.{Value, Number, Bytes, number_in, AllFit}
+use Rattle.script_spec.specs.Script.{Action, Row, row, said, Said, says, action_with, Header, header_name, header_row, header_values, header_with, header_size, room_field, fields_after_room, IsAction, IsHeader}
+use Rattle.script_spec.specs.Text.{words_of, after_name, is_passed_over}
+use Rattle.script_spec.specs.Grammar.{SpellEach, SpellsLine, SpellsAction, SpellsHeader, IsPassedOver}
+use Rattle.script_spec.specs.Reading.{◌>>=◌, or_reason, field_at, values_at, counted, line_named, line_at, action_at, line_action, header_at}
+use Rattle.script_laws.proofs.Words.{joined-words_of}
+use Rattle.script_laws.proofs.Forms.{bind_ok, ok_same, or_reason_ok}
+use Rattle.script_laws.proofs.Fields.{counted_ok, counted_again, values_spell, values_spelled, field_again, spell_length, each_fits, each_plain, all_formed, all_same}
+use Rattle.script_laws.proofs.Table.{said_again, action_again, named_again, named_is, after_name-is, row_named, is_name, named_words, named_counts}
 
--- ---- words without spaces
+-- ---- words of a row
 
-plain_by_test : (word : List ℕ) → list_all (λ b. not (b == 32)) word ≡ true → IsOneWord word
-plain_by_test [] h = All-nil NotSpace
-plain_by_test (b ∷ word) h =
-    let parts = and_parts (not (b == 32)) (list_all (λ c. not (c == 32)) word) h in
-    All-cons NotSpace b word (λ e. false≢true (sym (ap (λ c. not (c == 32)) e) ∙ parts.0)) (plain_by_test word parts.1)
+-- the words of a row: its name, and then those of the values
+abbrev pub SpellsWords : Row → List Value → List (List ℕ) → Type 0
+SpellsWords line values words = (rest : List (List ℕ)) × (words ≡ line.name ++ rest) × SpellEach line.fields values rest
 
-plain_digits : (word : List ℕ) → AllPass is_ascii_digit word → IsOneWord word
-plain_digits word digits = All-weaker (λ b. is_ascii_digit b ≡ true) NotSpace (λ b d e. false≢true (sym (ap is_ascii_digit e) ∙ d)) word digits
+text_of_words : (line : Row) (values : List Value) (text : List ℕ) → SpellsWords line values (words_of text) → SpellsLine line values text
+text_of_words line values text s = (s.0, sym (joined-words_of text) ∙ ap (join_with_byte 32) s.1, s.2)
 
-plain_hex : (word bytes : List ℕ) → decode_of word ≡ Ok bytes → IsOneWord word
-plain_hex word bytes h = All-weaker (λ b. is_hex_digit b ≡ true) NotSpace (λ b d e. false≢true (sym (ap is_hex_digit e) ∙ d)) word (decode_of-ok word bytes h).1
+words_of_text : (line : Row) (values : List Value) (text : List ℕ) → is_name line.name ≡ true → (s : SpellsLine line values text) → words_of text ≡ line.name ++ s.0
+words_of_text line values text named s =
+    ap words_of s.1 ∙ named_words line.name s.0 named (each_plain line.fields values s.0 s.2)
 
-plain_bytes : (bytes word : List ℕ) → SpellsBytes bytes word → IsOneWord word
-plain_bytes [] word s = subst IsOneWord (sym s) (plain_by_test (codes "-") refl)
-plain_bytes (b ∷ bytes) word s = plain_hex word (b ∷ bytes) s
-
-plain_lane : (lane : Priority) (word : List ℕ) → SpellsLane lane word → IsOneWord word
-plain_lane Low word s = subst IsOneWord (sym s) (plain_by_test (codes "low") refl)
-plain_lane High word s = absurd s
-
--- a literal part has no space
-abbrev pub PlainPart : Word → Type 0
-PlainPart (Literal text) = IsOneWord text
-PlainPart (Lane lane) = Unit {0}
-PlainPart (Number low high n) = Unit {0}
-PlainPart (Mask mask) = Unit {0}
-PlainPart (Bytes fewest most bytes) = Unit {0}
-
-abbrev pub PlainParts : List Word → Type 0
-PlainParts [] = Unit {0}
-PlainParts (part ∷ parts) = PlainPart part × PlainParts parts
-
-word_plain : (part : Word) (word : List ℕ) → PlainPart part → Spells part word → IsOneWord word
-word_plain (Literal text) word plain s = subst IsOneWord (sym s) plain
-word_plain (Lane lane) word plain s = plain_lane lane word s
-word_plain (Number low high n) word plain s = plain_digits word s.digits
-word_plain (Mask mask) word plain s = plain_hex word (s.0 ∷ s.1 ∷ []) s.2
-word_plain (Bytes fewest most bytes) word plain s = plain_bytes bytes word s.0
-
-words_plain : (parts : List Word) (words : List (List ℕ)) → PlainParts parts → SpellEach parts words → All IsOneWord words
-words_plain [] [] plain s = All-nil IsOneWord
-words_plain [] (word ∷ words) plain s = absurd s
-words_plain (part ∷ parts) [] plain s = absurd s
-words_plain (part ∷ parts) (word ∷ words) plain s =
-    All-cons IsOneWord word words (word_plain part word plain.0 s.0) (words_plain parts words plain.1 s.1)
-
--- the words of a text that the grammar makes of some parts
-text_words : (part : Word) (parts : List Word) (text : List ℕ) (words : List (List ℕ)) → PlainParts (part ∷ parts) → text ≡ join_with_byte 32 words → SpellEach (part ∷ parts) words → words_of text ≡ words
-text_words part parts text [] plain is s = absurd s
-text_words part parts text (word ∷ words) plain is s =
-    ap words_of is ∙ words_of-joined word words (word_plain part word plain.0 s.0) (words_plain parts words plain.1 s.1)
+counts : (line : Row) (values : List Value) (text : List ℕ) → is_name line.name ≡ true → SpellsLine line values text → is_passed_over text ≡ false
+counts line values text named s = ap is_passed_over s.1 ∙ named_counts line.name s.0 named
 
 -- ---- lines of events
 
-keyword_plain : (k : Keyword) → IsOneWord (keyword_text k)
-keyword_plain keyword.Probe = plain_by_test (codes "probe") refl
-keyword_plain keyword.Get = plain_by_test (codes "get") refl
-keyword_plain keyword.Create = plain_by_test (codes "create") refl
-keyword_plain keyword.Set = plain_by_test (codes "set") refl
-keyword_plain keyword.Delete = plain_by_test (codes "delete") refl
-keyword_plain keyword.Reset = plain_by_test (codes "reset") refl
-keyword_plain keyword.Deliver = plain_by_test (codes "deliver") refl
-keyword_plain keyword.Flow = plain_by_test (codes "flow") refl
+abbrev SaysWords : Said → List (List ℕ) → Type 0
+SaysWords s words = SpellsWords (row s.line) s.values words
 
-after_plain : (action : Action) → PlainParts (after_keyword action)
-after_plain (Probe lane) = (tt, tt)
-after_plain (Get lane entity mask) = (tt, (tt, (tt, (tt, tt))))
-after_plain (Create lane entity values) = (tt, (tt, (tt, (tt, tt))))
-after_plain (Set lane entity mask values) = (tt, (tt, (tt, (tt, (tt, tt)))))
-after_plain (Delete lane entity) = (tt, (tt, (tt, tt)))
-after_plain (Reset lane) = (tt, tt)
-after_plain (Deliver packet) = (tt, tt)
-after_plain (Flow times) = (tt, tt)
+-- what was read after a line's name
+action_spells : (line : Line) (words : List (List ℕ)) (action : Action) → action_at line words ≡ Ok action → (values : List Value) × SpellEach (row line).fields values words × (action_with line values ≡ action)
+unfolding action_at
+action_spells line words action h =
+    let parts = bind_ok (counted (length (row line).fields) words) _ action h in
+    let size = counted_ok (length (row line).fields) words parts.0 parts.1 in
+    let values = bind_ok (values_at (row line).fields parts.0) _ action parts.2 in
+    (values.0, values_spell (row line).fields words values.0 size.1 (ap (values_at (row line).fields) (sym size.0) ∙ values.1), ok_same values.2)
+
+line_spells : (words : List (List ℕ)) (action : Action) → line_action words ≡ Ok action → SaysWords (said action) words
+unfolding line_action line_at
+line_spells words action h =
+    let found = bind_ok (line_at words) _ action h in
+    let line = found.0.0 in
+    let named = named_is words found.0 (or_reason_ok WORD_FAULT (line_named words) found.0 found.1) in
+    let a = action_spells line found.0.1 action found.2 in
+    let fits = each_fits (row line).fields a.0 found.0.1 a.1 in
+    let whole : SaysWords (says line a.0) words = (found.0.1, named, a.1) in
+    subst (λ (b : Action). SaysWords (said b) words) a.2 (subst (λ s. SaysWords s words) (sym (said_again line a.0 fits)) whole)
+
+line_spelled : (action : Action) (rest : List (List ℕ)) → SpellEach (row (said action).line).fields (said action).values rest → line_action ((row (said action).line).name ++ rest) ≡ Ok action
+unfolding line_action line_at action_at
+line_spelled action rest s =
+    let line = (said action).line in
+    let fields = (row line).fields in
+    ap (λ o. or_reason WORD_FAULT o >>= λ found. action_at found.0 found.1) (named_again line rest)
+    ∙ ap (λ r. r >>= λ parts. values_at fields parts >>= λ values. Ok (action_with line values)) (counted_again (length fields) rest (spell_length fields (said action).values rest s))
+    ∙ ap (λ r. r >>= λ values. Ok (action_with line values)) (values_spelled fields (said action).values rest s) ∙ ap Ok (action_again action)
 
 -- what was read of a text is what the grammar says of it
-pub text_spells : (text : List ℕ) (action : Action) → line_action (words_of text) ≡ Ok action → SpellsAll (line_words action) text
-text_spells text action h = (words_of text, sym (joined-words_of text), line_spells (words_of text) action h)
+pub text_spells : (text : List ℕ) (action : Action) → line_action (words_of text) ≡ Ok action → SpellsAction action text
+text_spells text action h =
+    text_of_words (row (said action).line) (said action).values text (line_spells (words_of text) action h)
 
-pub text_spelled : (text : List ℕ) (action : Action) → SpellsAll (line_words action) text → line_action (words_of text) ≡ Ok action
+pub text_spelled : (text : List ℕ) (action : Action) → SpellsAction action text → line_action (words_of text) ≡ Ok action
 text_spelled text action s =
-    let each = subst (λ ps. SpellEach ps s.0) (line_words-parts action) s.2 in
-    let words = text_words (Literal (keyword_text (keyword_for action))) (after_keyword action) text s.0 (keyword_plain (keyword_for action), after_plain action) s.1 each in
-    ap line_action words ∙ line_spelled action s.0 s.2
+    ap line_action (words_of_text (row (said action).line) (said action).values text (row_named (said action).line) s) ∙ line_spelled action s.0 s.2
+
+-- the values of an action's text are in their ranges
+pub text_range : (text : List ℕ) (action : Action) → SpellsAction action text → IsAction action
+text_range text action s = each_fits (row (said action).line).fields (said action).values s.0 s.2
 
 -- ---- headers
 
-header_plain : (header : Header) → PlainParts (header_words header)
-header_plain header = (plain_by_test (codes "omci") refl, (plain_by_test (codes "1") refl, (tt, (tt, (tt, (tt, tt))))))
+pub header_spells : (words : List (List ℕ)) (header : Header) → header_at words ≡ Ok header → SpellsWords (header_row header.room) (header_values header) words
+unfolding header_at
+header_spells words header h =
+    let after = bind_ok (or_reason WORD_FAULT (after_name header_name words)) _ header h in
+    let parts = bind_ok (counted header_size after.0) _ header after.2 in
+    let size = counted_ok header_size after.0 parts.0 parts.1 in
+    let room = bind_ok (field_at room_field parts.0) _ header parts.2 in
+    let fields = fields_after_room (number_in room.0.0) in
+    let values = bind_ok (values_at fields room.0.1) _ header room.2 in
+    let all = room.0.0 ∷ values.0 in
+    let read : values_at (room_field ∷ fields) parts.0 ≡ Ok all = ap (λ r. r >>= λ v. values_at fields v.1 >>= λ vs. Ok (v.0 ∷ vs)) room.1 ∙ ap (λ r. r >>= λ vs. Ok (room.0.0 ∷ vs)) values.1 in
+    let each = values_spell (room_field ∷ fields) after.0 all size.1 (ap (values_at (room_field ∷ fields)) (sym size.0) ∙ read) in
+    let same = all_same (room_field ∷ fields) all (each_fits (room_field ∷ fields) all after.0 each) in
+    let named = after_name-is header_name words after.0 (or_reason_ok WORD_FAULT (after_name header_name words) after.0 after.1) in
+    subst (λ (hd : Header). SpellsWords (header_row hd.room) (header_values hd) words) (ok_same values.2) (after.0, named, subst (λ vs. SpellEach (room_field ∷ fields) vs after.0) (sym same) each)
 
-pub text_header : (text : List ℕ) (header : Header) → header_at (words_of text) ≡ Ok header → SpellsAll (header_words header) text
-text_header text header h = (words_of text, sym (joined-words_of text), header_spells (words_of text) header h)
+-- the room, and then the fields after it
+after_header : (header : Header) (words : List (List ℕ)) → SpellEach (header_row header.room).fields (header_values header) words
+    → (field_at room_field words >>= λ room. values_at (fields_after_room (number_in room.0)) room.1 >>= λ values. Ok (header_with (room.0 ∷ values))) ≡ Ok header
+after_header header [] s = absurd s
+after_header header (word ∷ words) s =
+    ap (λ r. r >>= λ room. values_at (fields_after_room (number_in room.0)) room.1 >>= λ values. Ok (header_with (room.0 ∷ values))) (field_again room_field (Number header.room) word words s.0)
+    ∙ ap (λ r. r >>= λ values. Ok (header_with (Number header.room ∷ values))) (values_spelled (fields_after_room header.room) (Number header.low ∷ Number header.high ∷ Bytes header.factory ∷ []) words s.1)
 
-pub header_text : (text : List ℕ) (header : Header) → SpellsAll (header_words header) text → header_at (words_of text) ≡ Ok header
+pub header_spelled : (header : Header) (words : List (List ℕ)) → SpellEach (header_row header.room).fields (header_values header) words → header_at (header_name ++ words) ≡ Ok header
+unfolding header_at
+header_spelled header words s =
+    ap (λ r. r >>= λ parts. field_at room_field parts >>= λ room. values_at (fields_after_room (number_in room.0)) room.1 >>= λ values. Ok (header_with (room.0 ∷ values))) (counted_again header_size words (spell_length (header_row header.room).fields (header_values header) words s))
+    ∙ after_header header words s
+
+pub text_header : (text : List ℕ) (header : Header) → header_at (words_of text) ≡ Ok header → SpellsHeader header text
+text_header text header h =
+    text_of_words (header_row header.room) (header_values header) text (header_spells (words_of text) header h)
+
+pub header_text : (text : List ℕ) (header : Header) → SpellsHeader header text → header_at (words_of text) ≡ Ok header
 header_text text header s =
-    let words = text_words (Literal (codes "omci")) (Literal (codes "1") ∷ Number 1 1048576 header.room ∷ Number 1 32767 header.low ∷ Number 1 32767 header.high ∷ Bytes 1 header.room header.factory ∷ []) text s.0 (header_plain header) s.1 s.2 in
-    ap header_at words ∙ header_spelled header s.0 s.2
+    ap header_at (words_of_text (header_row header.room) (header_values header) text refl s) ∙ header_spelled header s.0 s.2
+
+pub header_range : (text : List ℕ) (header : Header) → SpellsHeader header text → IsHeader header
+header_range text header s =
+    let h = each_fits (header_row header.room).fields (header_values header) s.0 s.2 in
+    record {
+      room_some = h.0.0;
+      room_most = h.0.1;
+      low_some = h.1.0.0;
+      low_most = h.1.0.1;
+      high_some = h.1.1.0.0;
+      high_most = h.1.1.0.1;
+      factory_some = h.1.1.1.0.0;
+      factory_fits = h.1.1.1.0.1;
+    }
 
 -- ---- lines that are passed over
 
@@ -128,30 +141,9 @@ pub passed_is : (text : List ℕ) → is_passed_over text ≡ true → IsPassedO
 passed_is [] h = inl refl
 passed_is (b ∷ text) h = inr (text, ap (λ c. c ∷ text) (eqb-true b 35 h))
 
--- a line that begins with a word is passed over where the word begins with `#`
-first_byte : (b : ℕ) (word : List ℕ) (words : List (List ℕ)) → is_passed_over (join_with_byte 32 ((b ∷ word) ∷ words)) ≡ (b == 35)
-first_byte b word [] = refl
-first_byte b word (next ∷ words) = refl
-
-keyword_first : (k : Keyword) (words : List (List ℕ)) → is_passed_over (join_with_byte 32 (keyword_text k ∷ words)) ≡ false
-keyword_first keyword.Probe words = first_byte 112 (codes "robe") words
-keyword_first keyword.Get words = first_byte 103 (codes "et") words
-keyword_first keyword.Create words = first_byte 99 (codes "reate") words
-keyword_first keyword.Set words = first_byte 115 (codes "et") words
-keyword_first keyword.Delete words = first_byte 100 (codes "elete") words
-keyword_first keyword.Reset words = first_byte 114 (codes "eset") words
-keyword_first keyword.Deliver words = first_byte 100 (codes "eliver") words
-keyword_first keyword.Flow words = first_byte 102 (codes "low") words
-
-not_passed : (literal : List ℕ) (parts : List Word) (text : List ℕ) (words : List (List ℕ)) → ((rest : List (List ℕ)) → is_passed_over (join_with_byte 32 (literal ∷ rest)) ≡ false) → text ≡ join_with_byte 32 words → SpellEach (Literal literal ∷ parts) words → is_passed_over text ≡ false
-not_passed literal parts text [] first is s = absurd s
-not_passed literal parts text (word ∷ words) first is s =
-    ap is_passed_over is ∙ ap (λ w. is_passed_over (join_with_byte 32 (w ∷ words))) s.0 ∙ first words
-
-pub action_not_passed : (text : List ℕ) (action : Action) → SpellsAll (line_words action) text → is_passed_over text ≡ false
+pub action_not_passed : (text : List ℕ) (action : Action) → SpellsAction action text → is_passed_over text ≡ false
 action_not_passed text action s =
-    not_passed (keyword_text (keyword_for action)) (after_keyword action) text s.0 (keyword_first (keyword_for action)) s.1 (subst (λ ps. SpellEach ps s.0) (line_words-parts action) s.2)
+    counts (row (said action).line) (said action).values text (row_named (said action).line) s
 
-pub header_not_passed : (text : List ℕ) (header : Header) → SpellsAll (header_words header) text → is_passed_over text ≡ false
-header_not_passed text header s =
-    not_passed (codes "omci") (Literal (codes "1") ∷ Number 1 1048576 header.room ∷ Number 1 32767 header.low ∷ Number 1 32767 header.high ∷ Bytes 1 header.room header.factory ∷ []) text s.0 (λ rest. first_byte 111 (codes "mci") rest) s.1 s.2
+pub header_not_passed : (text : List ℕ) (header : Header) → SpellsHeader header text → is_passed_over text ≡ false
+header_not_passed text header s = counts (header_row header.room) (header_values header) text refl s

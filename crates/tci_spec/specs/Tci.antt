@@ -3,7 +3,7 @@ use Rattle.std.specs.Prelude.{ℕ, ◌+◌, ◌==◌, Bool, if◌then◌else◌,
 use Rattle.std.specs.Int.{from_be_bytes, w16}
 use Rattle.omci_types.specs.declared.Priority.{Priority}
 use Rattle.omci_types.specs.declared.Priority.TheVariants.{Low, High}
-use Rattle.tci_spec.specs.declared.TheConstants.{LAST_NUMBER, HIGH_BIT}
+use Rattle.frame_spec.specs.declared.TheConstants.{LAST_NUMBER, FIRST_HIGH_TCI}
 
 -- a number of a command
 pub record IsNumber (n : ℕ) : Type 0 where
@@ -16,7 +16,7 @@ number_after n = if n == LAST_NUMBER then 1 else n + 1
 
 -- whether a TCI's top bit is clear
 abbrev pub is_low : ℕ → Bool
-is_low tci = nat_lt tci HIGH_BIT
+is_low tci = nat_lt tci FIRST_HIGH_TCI
 
 -- the priority of a TCI
 abbrev pub priority_of : ℕ → Priority
@@ -25,7 +25,7 @@ priority_of tci = if is_low tci then Low else High
 -- the TCI of a priority's command with that number
 abbrev pub tci_of : Priority → ℕ → ℕ
 tci_of Low number = number
-tci_of High number = number + HIGH_BIT
+tci_of High number = number + FIRST_HIGH_TCI
 
 -- the TCI of a packet: its first two bytes
 abbrev pub packet_tci : List ℕ → ℕ

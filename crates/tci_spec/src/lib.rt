@@ -2,8 +2,4 @@
 //! commands of a priority have. Definitions alone.
 #![tactic(auto)]
 
-/// The last number of a command; the number after it is 1.
-pub const LAST_NUMBER: u16 = 32_767;
-
-/// The top bit of a TCI. It is set in the TCIs of high priority.
-pub const HIGH_BIT: u16 = 0x8000;
+pub use frame_spec::{FIRST_HIGH_TCI, LAST_NUMBER};

@@ -1,5 +1,5 @@
 -- The unit: its database, and for each priority the reply that it gave last.
-use Rattle.std.specs.Prelude.{ℕ, ◌-◌, ◌/◌, ◌==◌, Bool, true, false, List, [], ◌∷◌, replicate, Option, Some, None, Result, Ok, Err}
+use Rattle.std.specs.Prelude.{ℕ, ◌-◌, ◌/◌, ◌==◌, ◌&&◌, is_none, Bool, true, false, List, [], ◌∷◌, replicate, Option, Some, None, Result, Ok, Err}
 use Rattle.omci_types.specs.declared.Code.{Code}
 use Rattle.omci_types.specs.declared.Frame.{Frame}
 use Rattle.omci_types.specs.declared.Software.{Software}
@@ -14,7 +14,7 @@ use Rattle.message_spec.specs.declared.ContentsFault.TheVariants.{UnknownType, B
 use Rattle.message_spec.specs.Reading.{plain, message_of}
 use Rattle.frame_spec.specs.Baseline.{spelling, packet_frame}
 use Rattle.mib_spec.specs.Database.{Database, first}
-use Rattle.mib_spec.specs.Requests.{created, deleted, set_done, got, reset_code, reset, changed_by}
+use Rattle.mib_spec.specs.Requests.{create_code, created, deleted, set_done, got, reset_code, reset, changed_by}
 use Rattle.retry_spec.specs.Kept.{Kept, nothing_kept, kept_for, kept_with}
 use Rattle.unit_spec.specs.declared.Did.{Did}
 use Rattle.unit_spec.specs.declared.Did.TheVariants as did
@@ -44,20 +44,22 @@ pub record Answer : Type 0 where
   pub unit : Onu
 
 -- the response to a request, under its TCI and for its entity
+abbrev pub response_frame : Frame → Response → Frame
+response_frame f response = plain (Answered f.tci f.entity response)
+
 abbrev pub answered : Frame → Response → Onu → Answer
-answered f response u = record { reply = plain (Answered f.tci f.entity response); unit = u }
+answered f response u = record { reply = response_frame f response; unit = u }
 
 abbrev pub with_database : Database → Onu → Onu
 with_database db u = record u { database = db }
 
--- A request of a type that the unit doesn't carry out: the same type with AK in place of AR, and the result 2. Nothing
--- changes.
+-- The response to a request of a type that the unit doesn't carry out: the same type with AK in place of AR, and the
+-- result 2. Nothing changes.
+abbrev pub refusal_frame : Frame → Frame
+refusal_frame f = record { tci = f.tci; kind = f.kind - 32; entity = f.entity; contents = 2 ∷ replicate 31 0 }
+
 abbrev pub not_supported : Frame → Onu → Answer
-not_supported f u =
-    record {
-      reply = record { tci = f.tci; kind = f.kind - 32; entity = f.entity; contents = 2 ∷ replicate 31 0 };
-      unit = u;
-    }
+not_supported f u = record { reply = refusal_frame f; unit = u }
 
 abbrev pub code : ℕ → Code
 code number = record { 0 = number }
@@ -138,3 +140,24 @@ for_frame (Some f) u = for_message (message_of f) f u
 -- a packet that comes: one that isn't exactly one frame is nothing
 unfoldable pub onu_received : List ℕ → Onu → Reception
 onu_received bytes u = for_frame (packet_frame bytes) u
+
+-- ---- memory
+
+-- whether carrying a request out takes memory: an entity is made
+abbrev pub makes_entity : Frame → Request → Database → Bool
+makes_entity f (request.Create values) db = create_code f.entity db == 0
+makes_entity f _ db = false
+
+abbrev pub message_takes : Result Message ContentsFault → Frame → Onu → Bool
+message_takes (Ok (Asked tci entity r)) f u = is_none (kept_for f.tci u.kept) && makes_entity f r u.database
+message_takes (Ok (Answered tci entity r)) f u = false
+message_takes (Ok (Told tci entity notice)) f u = false
+message_takes (Err fault) f u = false
+
+abbrev pub frame_takes : Option Frame → Onu → Bool
+frame_takes None u = false
+frame_takes (Some f) u = message_takes (message_of f) f u
+
+-- whether a packet takes memory: it asks for an entity that will be made, and no kept reply answers it
+unfoldable pub takes_memory : List ℕ → Onu → Bool
+takes_memory bytes u = frame_takes (packet_frame bytes) u

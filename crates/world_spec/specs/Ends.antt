@@ -1,11 +1,12 @@
 -- The two ends, each on or off, and what happens to them: at a submission, when a packet comes, with each second, and when the
 -- power goes or comes back. None of this knows the link.
-use Rattle.std.specs.Prelude.{ℕ, ◌+◌, ◌-◌, Bool, true, false, List, [], ◌∷◌, ◌++◌, length, map, take, replicate, Option, Some, None, Result, Ok, Err}
+use Rattle.std.specs.Prelude.{ℕ, ◌+◌, Bool, true, false, List, [], ◌∷◌, ◌++◌, length, map, Option, Some, None}
 use Rattle.std.specs.List.{flat_map}
 use Rattle.omci_types.specs.declared.Priority.{Priority}
 use Rattle.omci_types.specs.declared.SlotView.{SlotView}
 use Rattle.omci_types.specs.declared.Software.{Software}
 use Rattle.frame_spec.specs.Checksum.{crc}
+use Rattle.frame_spec.specs.Widths.{front_filled}
 use Rattle.script_spec.specs.Script.{Header}
 use Rattle.link_spec.specs.declared.Direction.{Direction}
 use Rattle.link_spec.specs.declared.Direction.TheVariants.{Down, Up}
@@ -14,7 +15,7 @@ use Rattle.unit_spec.specs.declared.Did.{Did}
 use Rattle.unit_spec.specs.declared.Did.TheVariants as did
 use Rattle.unit_spec.specs.Onu.{Onu, Reception, onu_started, onu_received}
 use Rattle.manager_spec.specs.declared.Refusal.{Refusal}
-use Rattle.manager_spec.specs.Manager.{Manager, Outcome, Sending, manager_started, after_packet, after_tick}
+use Rattle.manager_spec.specs.Manager.{Manager, Outcome, Submission, Sending, manager_started, after_packet, after_tick}
 use Rattle.world_spec.specs.Happenings.{Happening, OfLane, OfArrival, UnitStarted, ManagerStarted, PacketCame, PacketSent, UnitCarried, UnitKept, UnitDropped, CommandDrawn, Reported, Refused, NotEnabled}
 
 -- how many lines of the script are done, how many lives the unit has had, the software in its slots, and the ends that are on
@@ -32,13 +33,9 @@ pub record Step : Type 0 where
 
 -- ---- how they begin
 
--- the bytes, filled with zeros up to a width
-abbrev pub filled : ℕ → List ℕ → List ℕ
-filled width bytes = bytes ++ replicate (width - length bytes) 0
-
 -- what is known of an image
 abbrev pub view_of : List ℕ → SlotView
-view_of image = record { length = length image; crc = crc image; version = take 14 (filled 14 image) }
+view_of image = record { length = length image; crc = crc image; version = front_filled 14 image }
 
 -- the factory's image stands in slot 0, committed and active, and slot 1 isn't valid
 abbrev pub factory_software : List ℕ → Software
@@ -88,12 +85,15 @@ manager_did o e =
       happenings = map Reported o.manager.reports ++ flat_map sends o.sendings;
     }
 
-abbrev pub submitted : Result Outcome Refusal → Ends → Step
-submitted (Ok o) e = manager_did o e
-submitted (Err refusal) e = record { ends = e; happenings = Refused refusal ∷ [] }
+abbrev pub submitted_as : Option Refusal → Outcome → Ends → Step
+submitted_as None o e = manager_did o e
+submitted_as (Some refusal) o e = record { ends = e; happenings = Refused refusal ∷ [] }
+
+abbrev pub submitted : Submission → Ends → Step
+submitted s e = submitted_as s.refusal s.outcome e
 
 -- a submission to a manager that is on
-abbrev pub submission : (Manager → Result Outcome Refusal) → Option Manager → Ends → Step
+abbrev pub submission : (Manager → Submission) → Option Manager → Ends → Step
 submission call None e = not_enabled e
 submission call (Some m) e = submitted (call m) e
 

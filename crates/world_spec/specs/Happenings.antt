@@ -51,9 +51,9 @@ on_link (Refused refusal) l = l
 on_link NotEnabled l = l
 
 -- the link after all this
-abbrev pub link_after : List Happening → Link → Link
-link_after [] l = l
-link_after (h ∷ rest) l = link_after rest (on_link h l)
+abbrev pub link_read : List Happening → Link → Link
+link_read [] l = l
+link_read (h ∷ rest) l = link_read rest (on_link h l)
 
 -- the same of what is held of a link
 abbrev pub on_held : Happening → Held → Held
@@ -69,9 +69,9 @@ on_held (Reported report) l = l
 on_held (Refused refusal) l = l
 on_held NotEnabled l = l
 
-abbrev pub held_after : List Happening → Held → Held
-held_after [] l = l
-held_after (h ∷ rest) l = held_after rest (on_held h l)
+abbrev pub held_read : List Happening → Held → Held
+held_read [] l = l
+held_read (h ∷ rest) l = held_read rest (on_held h l)
 
 -- how many packets go onto the link
 abbrev pub packets_in : List Happening → ℕ

@@ -1,13 +1,14 @@
 -- The machine of both ends over the link, and what each line of a script does to it.
 use Rattle.std.specs.Prelude.{ℕ, zero, suc, ◌+◌, List, [], ◌∷◌, ◌++◌, Option, Some, None, is_some}
 use Rattle.message_spec.specs.declared.Request.TheVariants as request
+use Rattle.frame_spec.specs.Widths.{filled}
 use Rattle.script_spec.specs.Script.{Header, Action, Probe, Reset, Get, Create, Set, Delete, Deliver, Flow, NoiseUnit, NoiseOlt, Tick, CutUnit, CutOlt, StartUnit, StartOlt}
 use Rattle.link_spec.specs.declared.Direction.TheVariants.{Down, Up}
 use Rattle.link_spec.specs.Link.{Sent, Link, empty_link, allowed, fresh}
 use Rattle.lane_spec.specs.Command.{sync_entity}
 use Rattle.manager_spec.specs.Manager.{after_probe, after_submit}
-use Rattle.world_spec.specs.Happenings.{Happening, link_after}
-use Rattle.world_spec.specs.Ends.{Ends, Step, first_ends, filled, still, not_enabled, submission, arrives, noise, second, cut_unit, cut_manager, start_unit, start_manager}
+use Rattle.world_spec.specs.Happenings.{Happening, link_read}
+use Rattle.world_spec.specs.Ends.{Ends, Step, first_ends, still, not_enabled, submission, arrives, noise, second, cut_unit, cut_manager, start_unit, start_manager}
 
 pub record Nodes : Type 0 where
   pub ends : Ends
@@ -34,7 +35,7 @@ delivered number n = delivered_one (allowed number n.link) number n.ends
 
 -- the nodes after a step of their ends
 abbrev pub nodes_after_step : Step → Nodes → Nodes
-nodes_after_step s n = record { ends = s.ends; link = link_after s.happenings n.link }
+nodes_after_step s n = record { ends = s.ends; link = link_read s.happenings n.link }
 
 -- one step, and then what follows it
 abbrev pub goes_on : (Nodes → Step) → Step → Nodes → Step

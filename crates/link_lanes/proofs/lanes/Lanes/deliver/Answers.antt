@@ -1,0 +1,41 @@
+use Rattle.std.proofs.Common.{◌≡◌, ◌-◌, option_map, refl, ap, sym, ◌∙◌, arith}
+use Rattle.std.proofs.lemmas.Option.{slice_get_within}
+use Rattle.link_spec.specs.Link.{Sent}
+use Rattle.link_spec.specs.Held.{Held, held_allowed, held_after}
+use Rattle.link_lanes.proofs.Steps.{comes, first_same, there_is}
+use Rattle.link_lanes.proofs.lanes.Lanes.deliver.Goals as goal
+
+pub overflow_sub-place : goal.overflow_sub-place
+overflow_sub-place c =
+    let m = comes c.args.number c.args.self.now (sym c.pass.ensures.allowed ∙ c.if-not-pass.false) in
+    let first = first_same c.args.number c.self.inside.latest c.self.inside.ways c.args.self.now c.pass.new.self c.self.view_is c.pass.ensures.lanes in
+    omega (arith, m.first, c.first.ensures.value)
+
+pub copy-requires : goal.copy-requires
+copy-requires c =
+    let m = comes c.args.number c.args.self.now (sym c.pass.ensures.allowed ∙ c.if-not-pass.false) in
+    slice_get_within c.self.inside.latest.last (c.args.number - c.first.result) m.packet
+    (there_is c.args.number c.first.result c.self.inside.latest c.self.inside.ways c.args.self.now c.pass.new.self c.self.view_is c.pass.ensures.lanes c.first.ensures.value m)
+
+pub returns : goal.returns
+returns c =
+    let m = comes c.args.number c.args.self.now (sym c.pass.ensures.allowed ∙ c.if-not-pass.false) in
+    let there = there_is c.args.number c.first.result c.self.inside.latest c.self.inside.ways c.args.self.now c.pass.new.self c.self.view_is c.pass.ensures.lanes c.first.ensures.value m in
+    let held = c.self.view_is ∙ c.pass.ensures.lanes in
+    let packet = sym c.copy.ensures.value ∙ ap (option_map (λ (s : Sent). s.bytes)) (there ∙ sym m.allowed) in (
+      (
+        refl,
+        λ _. tt,
+        record {
+          held = held;
+          stands = λ l e. held ∙ ap (λ (h : Held). held_after c.args.number h) e ∙ sym (c.held_follows_the_link.ensures.after c.args.number l);
+        },
+      ),
+      record {
+        after = tt;
+        packet = packet;
+        stands = λ l e.
+            packet ∙ ap (λ (h : Held). option_map (λ (s : Sent). s.bytes) (held_allowed c.args.number h)) e
+            ∙ ap (option_map (λ (s : Sent). s.bytes)) (c.held_answers_for_the_link.ensures.allowed c.args.number l);
+      },
+    )

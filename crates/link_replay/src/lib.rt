@@ -1,0 +1,4 @@
+//! Both ends over a simulated link: a world runs the events of a script one after the other, and writes the lines of the trace.
+#![tactic(auto)]
+
+mod texts;

@@ -1,0 +1,16 @@
+-- What callers see of a manager: the manager, and whether memory ran out in an earlier call.
+use Rattle.std.specs.Prelude.{◌≡◌, Bool, true, false, ℕ, List, length}
+use Rattle.std.specs.List.{All}
+use Rattle.manager_spec.specs.Manager.{Manager, Sending, packets_of}
+
+pub record State : Type 0 where
+  pub spent : Bool
+  pub manager : Manager
+
+-- a manager whose memory never ran out
+abbrev pub sound : Manager → State
+sound m = record { spent = false; manager = m }
+
+-- each packet is a baseline frame's 48 bytes
+abbrev pub AreFrames : List (List ℕ) → Type 0
+AreFrames packets = All (λ packet. length packet ≡ 48) packets

@@ -1,0 +1,150 @@
+//! The manager as its callers hold it.
+
+ghost use Rattle.std.specs.Prelude.{◌≡◌, ◌≢◌, ◌↔◌, ◌++◌, Option, Some, None, true, Ok, Err, IfErr, OnOk, OnErr, IsNone, option_to_list, []};
+ghost use Rattle.tci_spec.specs.Tci.{IsNumber};
+ghost use Rattle.message_spec.specs.Reading.{RequestWindow};
+ghost use Rattle.manager_spec.specs.declared.Refusal.TheVariants as refusal;
+ghost use Rattle.manager_spec.specs.Manager.{manager_started, packets_of, after_probe, after_submit, after_packet, after_tick};
+ghost use Rattle.olt_manager.specs.State.{sound, AreFrames};
+
+use crate::two_lanes::TwoLanes;
+use manager_spec::{Refusal, Report};
+use omci_contents::Request;
+use omci_core::{EntityId, NoMemory, Packets, Priority};
+use std::alloc::Global;
+use std::marker::Model;
+
+/// The manager. Its owner sends the packets that its calls put into `out`, hands it the packets that come, tells it each second,
+/// and takes its reports out. Where memory runs out in a call, the manager is spent: each later call that has a result answers
+/// `NoMemory`.
+#[derive(Drop)]
+pub struct Manager {
+    spent: bool,
+    lanes: TwoLanes,
+}
+
+impl Model for Manager {
+    ghost use Rattle.olt_manager.specs.State.{State};
+
+    ghost Value = { State };
+
+    ghost view = { λ m. record { spent = m.spent; manager = m.lanes } };
+}
+
+/// The answer to a submission.
+fn answer_of(outcome: Result<Option<Refusal>, NoMemory>) -> Result<(), Refusal>
+    ensures refused { IfErr result (λ r. r ≢ refusal.NoMemory → outcome ≡ Ok (Some r)) }
+    ensures accepted { OnOk result (outcome ≡ Ok None) }
+{
+    match outcome {
+        Ok(None) => Ok(()),
+        Ok(Some(refusal)) => Err(refusal),
+        Err(NoMemory) => Err(Refusal::NoMemory),
+    }
+}
+
+impl Manager {
+    /// A manager whose lanes draw their numbers from these on, each 1 to 32,767. Nothing is proved, and nothing is outstanding.
+    pub fn start(alloc: Global, low: u16, high: u16) -> Manager
+        requires low { IsNumber low }
+        requires high { IsNumber high }
+        ensures started { result ≡ sound (manager_started low high) }
+    {
+        Manager {
+            spent: false,
+            lanes: TwoLanes::start(alloc, low, high),
+        }
+    }
+
+    /// Probes a lane: a get of MIB data sync (ITU-T G.988, clause 9.1.3) whose reply proves the lane, whatever it says.
+    /// Refused where a command is outstanding in the lane; then nothing has changed and nothing is sent.
+    pub fn probe(&mut self, priority: Priority, out: &mut Packets) -> Result<(), Refusal>
+        ensures refused { IfErr result (λ r. r ≢ refusal.NoMemory → (after_probe priority self.old.manager).refusal ≡ Some r) }
+        ensures accepted { OnOk result ((after_probe priority self.old.manager).refusal ≡ None) }
+        ensures manager { result ≢ Err refusal.NoMemory → self.new ≡ sound (after_probe priority self.old.manager).outcome.manager }
+        ensures packets { result ≢ Err refusal.NoMemory
+            → out.new ≡ out.old ++ packets_of (after_probe priority self.old.manager).outcome.sendings }
+        ensures whole { result ≢ Err refusal.NoMemory → AreFrames (packets_of (after_probe priority self.old.manager).outcome.sendings) }
+        ensures spent { self.old.spent ≡ true → result ≡ Err refusal.NoMemory }
+        ensures spends { result ≡ Err refusal.NoMemory → self.new.spent ≡ true }
+    {
+        if self.spent {
+            return Err(Refusal::NoMemory);
+        }
+        let answer = answer_of(self.lanes.probe(priority, out));
+        self.spent = matches!(answer, Err(Refusal::NoMemory));
+        answer
+    }
+
+    /// Submits a request for an entity over a lane. Refused, in this order, where the lane isn't proved, where a command is
+    /// outstanding in it, and where the request is a change and a change is outstanding in the other lane; then nothing has
+    /// changed and nothing is sent.
+    pub fn submit(
+        &mut self,
+        priority: Priority,
+        entity: EntityId,
+        request: Request,
+        out: &mut Packets,
+    ) -> Result<(), Refusal>
+        requires window { RequestWindow request }
+        ensures refused { IfErr result (λ r. r ≢ refusal.NoMemory
+            → (after_submit priority entity request self.old.manager).refusal ≡ Some r) }
+        ensures accepted { OnOk result ((after_submit priority entity request self.old.manager).refusal ≡ None) }
+        ensures manager { result ≢ Err refusal.NoMemory
+            → self.new ≡ sound (after_submit priority entity request self.old.manager).outcome.manager }
+        ensures packets { result ≢ Err refusal.NoMemory
+            → out.new ≡ out.old ++ packets_of (after_submit priority entity request self.old.manager).outcome.sendings }
+        ensures whole { result ≢ Err refusal.NoMemory
+            → AreFrames (packets_of (after_submit priority entity request self.old.manager).outcome.sendings) }
+        ensures spent { self.old.spent ≡ true → result ≡ Err refusal.NoMemory }
+        ensures spends { result ≡ Err refusal.NoMemory → self.new.spent ≡ true }
+    {
+        if self.spent {
+            return Err(Refusal::NoMemory);
+        }
+        let answer = answer_of(self.lanes.submit(priority, entity, request, out));
+        self.spent = matches!(answer, Err(Refusal::NoMemory));
+        answer
+    }
+
+    /// Takes a packet from the link. A packet that isn't exactly one frame, or that answers nothing that is outstanding, is
+    /// reported as dropped.
+    pub fn packet(&mut self, bytes: &[u8]) -> Result<(), NoMemory>
+        ensures manager { OnOk result (self.new ≡ sound (after_packet bytes.now self.old.manager).manager) }
+        ensures spent { self.old.spent ≡ true → OnOk result ⊥ }
+        ensures spends { OnErr result (self.new.spent ≡ true) }
+    {
+        if self.spent {
+            return Err(NoMemory);
+        }
+        let done = self.lanes.packet(bytes);
+        self.spent = done.is_err();
+        done
+    }
+
+    /// A second passes, for the high lane and then for the low one: an outstanding command is sent again when its time is over,
+    /// and given up after its second repeat.
+    pub fn tick(&mut self, out: &mut Packets) -> Result<(), NoMemory>
+        ensures manager { OnOk result (self.new ≡ sound (after_tick self.old.manager).manager) }
+        ensures packets { OnOk result (out.new ≡ out.old ++ packets_of (after_tick self.old.manager).sendings) }
+        ensures whole { OnOk result (AreFrames (packets_of (after_tick self.old.manager).sendings)) }
+        ensures spent { self.old.spent ≡ true → OnOk result ⊥ }
+        ensures spends { OnErr result (self.new.spent ≡ true) }
+    {
+        if self.spent {
+            return Err(NoMemory);
+        }
+        let done = self.lanes.tick(out);
+        self.spent = done.is_err();
+        done
+    }
+
+    /// Takes out the oldest report. `None` exactly where none waits.
+    pub fn report(&mut self) -> Option<Report>
+        ensures oldest { self.old.manager.reports ≡ option_to_list result ++ self.new.manager.reports }
+        ensures none { IsNone result ↔ (self.old.manager.reports ≡ []) }
+        ensures rest { self.new ≡ record self.old { manager = record self.old.manager { reports = self.new.manager.reports } } }
+    {
+        self.lanes.take_report()
+    }
+}
