@@ -2,7 +2,7 @@
 use Rattle.std.proofs.Common.{◌≡◌, ◌≢◌, ℕ, ◌+◌, ◌-◌, ◌<◌, ◌≤◌, arith}
 use Rattle.std.proofs.lemmas.Bool.Decides.{nat_tests}
 use Rattle.tci_spec.specs.Tci.{IsNumber, number_after}
-use Rattle.tci_spec.specs.declared.TheConstants.{LAST_NUMBER}
+use Rattle.frame_spec.specs.declared.TheConstants.{LAST_NUMBER}
 use Rattle.link_spec.specs.declared.TheConstants.{WINDOW}
 use Rattle.moves_spec.specs.Channel.{Transaction, place_number}
 use Rattle.moves_laws.proofs.Parts.{Past}

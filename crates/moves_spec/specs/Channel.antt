@@ -4,7 +4,7 @@ use Rattle.std.specs.Prelude.{ℕ, ◌+◌, ◌%◌, Bool, false, List, [], Opti
 use Rattle.omci_types.specs.declared.Priority.{Priority}
 use Rattle.omci_types.specs.declared.Priority.TheVariants.{Low, High}
 use Rattle.history_spec.specs.History.{Entry}
-use Rattle.tci_spec.specs.declared.TheConstants.{LAST_NUMBER}
+use Rattle.frame_spec.specs.declared.TheConstants.{LAST_NUMBER}
 
 -- A command as a manager drew it. Its id is its number over the whole run. Its place counts the
 -- draws in its lane, and gives the number in its TCI. The packets are those of each time that it is

@@ -20,7 +20,7 @@ use Rattle.history_spec.specs.History.{CarriedOut}
 use Rattle.moves_spec.specs.Channel.{Transaction, place_number, LinkPacket, RequestOf, ReplyTo, KeptReply, LaneState, Channel, View, lane_view, with_lane_view}
 use Rattle.moves_spec.specs.Moves.{Move, Execution, RequestComes, with_packet, with_floor_down, with_floor_up, with_execution, execute, execute_unless, serve, request_if, may_go_down, with_request, request_at, after_move, after_moves}
 use Rattle.moves_laws.proofs.Numbers.{place_is_number}
-use Rattle.world_spec.specs.Happenings.{Happening, PacketCame, UnitCarried, UnitKept, UnitDropped, PacketSent, link_after}
+use Rattle.world_spec.specs.Happenings.{Happening, PacketCame, UnitCarried, UnitKept, UnitDropped, PacketSent, link_read}
 use Rattle.world_spec.specs.Ends.{unit_deed}
 use Rattle.world_spec.specs.History.{Told, name_at, tell_all}
 use Rattle.world_laws.proofs.Tcis.{lane_of_tci, same_number, tci_fits, tci_spelled}
@@ -166,7 +166,7 @@ pub record Stands (l : Priority) (tr : Transaction) (i : ℕ) (s : Sent) (names 
 
 dropped_follows : (l : Priority) (tr : Transaction) (i : ℕ) (s : Sent) (link : Link) (lives : ℕ) (u : Onu) (manager : Option Manager) (t : Told) (p : Channel)
     → Stands l tr i s t.names p → Like link lives (Some u) manager t p
-    → let hs = arrival i s did.Dropped [] u lives in Follows (link_after hs link) lives (Some u) manager (tell_all hs t) p
+    → let hs = arrival i s did.Dropped [] u lives in Follows (link_read hs link) lives (Some u) manager (tell_all hs t) p
 dropped_follows l tr i s link lives u manager t p a h =
     (RequestComes i None ∷ [], subst (λ q. Like (delivered_on i s link) lives (Some u) manager (came_told i s t) q)
       (sym (request_goes l tr i None p a.at a.may)) (came_down l tr.place i s link lives (Some u) manager t p a.way a.tci h))
@@ -181,7 +181,7 @@ serve_goes l tr e v o k w same =
 
 repeat_follows : (l : Priority) (tr : Transaction) (i : ℕ) (s : Sent) (r : Reply) (link : Link) (lives : ℕ) (u : Onu) (manager : Option Manager) (t : Told) (p : Channel)
     → Stands l tr i s t.names p → Like link lives (Some u) manager t p → kept_in l u.kept ≡ Some r → r.tci ≡ tci_at l tr.place
-    → let hs = arrival i s did.Kept r.packet u lives in Follows (link_after hs link) lives (Some u) manager (tell_all hs t) p
+    → let hs = arrival i s did.Kept r.packet u lives in Follows (link_read hs link) lives (Some u) manager (tell_all hs t) p
 repeat_follows l tr i s r link lives u manager t p a h is same =
     (RequestComes i (Some e) ∷ [], subst (λ q. Like (sent_on (record { direction = Up; bytes = r.packet }) (delivered_on i s link)) lives (Some u) manager (record c { names = c.names ++ c.came ∷ [] }) q)
       (sym moves)
@@ -244,7 +244,7 @@ executed_like High tr e r link lives u w manager t v p k tci packet own name h =
 execute_follows : (l : Priority) (tr : Transaction) (i : ℕ) (s : Sent) (reply : List ℕ) (link : Link) (lives : ℕ) (u w : Onu) (manager : Option Manager) (t : Told) (p : Channel)
     → Stands l tr i s t.names p → Like link lives (Some u) manager t p → ((r : Reply) → kept_in l u.kept ≡ Some r → r.tci ≢ tci_at l tr.place)
     → w.kept ≡ keep_in l (record { tci = tci_at l tr.place; packet = reply }) u.kept → packet_tci reply ≡ tci_at l tr.place
-    → let hs = arrival i s did.Carried reply u lives in Follows (link_after hs link) lives (Some w) manager (tell_all hs t) p
+    → let hs = arrival i s did.Carried reply u lives in Follows (link_read hs link) lives (Some w) manager (tell_all hs t) p
 execute_follows l tr i s reply link lives u w manager t p a h differs k own =
     (RequestComes i (Some e) ∷ [], subst (λ q. Like (sent_on (record { direction = Up; bytes = reply }) (delivered_on i s link)) lives (Some w) manager (record d { names = d.names ++ d.came ∷ [] }) q)
       (sym moves)
@@ -283,7 +283,7 @@ asked_is f a u = refl
 
 abbrev pub ReceptionFollows : Reception → ℕ → Sent → Onu → Link → ℕ → Option Manager → Told → Channel → Type 0
 ReceptionFollows r i s u link lives manager t p =
-    let hs = arrival i s r.did r.reply u lives in Follows (link_after hs link) lives (Some r.unit) manager (tell_all hs t) p
+    let hs = arrival i s r.did r.reply u lives in Follows (link_read hs link) lives (Some r.unit) manager (tell_all hs t) p
 
 asked_follows : (l : Priority) (tr : Transaction) (i : ℕ) (s : Sent) (f : Frame) (a : Answer) (link : Link) (lives : ℕ) (u : Onu) (manager : Option Manager) (t : Told) (p : Channel)
     → Stands l tr i s t.names p → Like link lives (Some u) manager t p → f.tci ≡ tci_at l tr.place → a.reply.tci ≡ tci_at l tr.place → a.unit.kept ≡ u.kept

@@ -8,6 +8,7 @@ use Rattle.omci_types.specs.declared.Priority.TheVariants.{Low, High}
 use Rattle.tci_spec.specs.Tci.{IsNumber, priority_of, packet_tci}
 use Rattle.message_spec.specs.declared.Request.TheVariants as request
 use Rattle.frame_spec.specs.Baseline.{fault_of}
+use Rattle.frame_spec.specs.Widths.{filled}
 use Rattle.script_spec.specs.Script.{Header, Action, Probe, Reset, Get, Create, Set, Delete, Deliver, Flow, NoiseUnit, NoiseOlt, Tick, CutUnit, CutOlt, StartUnit, StartOlt}
 use Rattle.link_spec.specs.declared.Direction.{Direction}
 use Rattle.link_spec.specs.declared.Direction.TheVariants.{Down, Up}
@@ -23,8 +24,8 @@ use Rattle.history_spec.specs.History.{TookReply, Once, Answered}
 use Rattle.moves_spec.specs.Channel.{Transaction, place_number, LinkPacket, RequestOf, ReplyTo, Unasked, Channel, View, lane_view, with_lane_view, first_channel}
 use Rattle.moves_spec.specs.Moves.{Move, UnitStarts, ManagerStarts, may_go, may_go_down, may_go_up, after_move, after_moves}
 use Rattle.moves_laws.proofs.Numbers.{number_at_first, place_is_number}
-use Rattle.world_spec.specs.Happenings.{Happening, PacketCame, Reported, UnitDropped, link_after}
-use Rattle.world_spec.specs.Ends.{Ends, Step, still, not_enabled, preceded, manager_did, manager_got, unit_did, unit_got, arrives_at, arrives, noise, cut_unit, cut_manager, start_unit, start_manager, filled}
+use Rattle.world_spec.specs.Happenings.{Happening, PacketCame, Reported, UnitDropped, link_read}
+use Rattle.world_spec.specs.Ends.{Ends, Step, still, not_enabled, preceded, manager_did, manager_got, unit_did, unit_got, arrives_at, arrives, noise, cut_unit, cut_manager, start_unit, start_manager}
 use Rattle.world_spec.specs.Nodes.{Nodes, Turn, first_nodes, delivered_one, delivered, nodes_after_step, goes_on, flow_from, oldest_fresh, flow, acted, counted, turn_of, step}
 use Rattle.world_spec.specs.History.{Told, first_told, drawn_in, tell_all, told_after, history_of}
 use Rattle.world_laws.proofs.Tcis.{lane_of_tci}

@@ -6,8 +6,8 @@ use Rattle.omci_types.specs.declared.Priority.{Priority}
 use Rattle.tci_spec.specs.Tci.{priority_of, packet_tci}
 use Rattle.frame_spec.specs.Baseline.{fault_of, packet_frame}
 use Rattle.lane_spec.specs.Command.{Command, command_frame, is_response, answers}
-use Rattle.lane_spec.specs.Lane.{Lane, Waiting, Replied, ended, reply_by, reply_to, lane_reply}
-use Rattle.manager_spec.specs.Manager.{Manager, Outcome, lane_in, with_lane, with_report, sends_nothing, packet_dropped, is_probing, reply_report, take_if, frame_came, for_frame, after_packet}
+use Rattle.lane_spec.specs.Lane.{Lane, Waiting, Replied, ended, reply_by, reply_to, lane_reply, is_probing}
+use Rattle.manager_spec.specs.Manager.{Manager, Outcome, lane_in, with_lane, with_report, sends_nothing, packet_dropped, reply_report, take_if, frame_came, for_frame, after_packet}
 use Rattle.world_laws.proofs.Reading.{tci_read, noise_read}
 
 -- a frame is the reply to the command that is outstanding in a lane

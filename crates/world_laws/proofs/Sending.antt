@@ -16,7 +16,7 @@ use Rattle.unit_spec.specs.Onu.{Onu}
 use Rattle.moves_spec.specs.Channel.{Transaction, place_number, LinkPacket, RequestOf, Outstanding, LaneState, Channel, View, lane_view, with_lane_view}
 use Rattle.moves_spec.specs.Moves.{Move, Draw, Send, drawn_transaction, outstanding_of, with_draw, draw_if, with_packet, with_requests, with_sent, send_if, after_move, after_moves}
 use Rattle.moves_laws.proofs.Numbers.{number_next, place_is_number}
-use Rattle.world_spec.specs.Happenings.{Happening, PacketSent, OfLane, CommandDrawn, link_after}
+use Rattle.world_spec.specs.Happenings.{Happening, PacketSent, OfLane, CommandDrawn, link_read}
 use Rattle.world_spec.specs.Ends.{goes_down, sends}
 use Rattle.world_spec.specs.History.{Told, drawn_in, draws_in, tell_all}
 use Rattle.world_laws.proofs.Tcis.{tci_fits, tci_spelled}
@@ -40,7 +40,7 @@ packets_tci l place c =
 -- they go onto the link
 pub sends_like : (l : Priority) (tr : Transaction) (ps : List (List ℕ)) (link : Link) (lives : ℕ) (unit : Option Onu) (manager : Option Manager) (t : Told) (v : View) (p : Channel)
     → HaveTci (tci_at l tr.place) ps → drawn_in l t ≡ tr.id → Like link lives unit manager t (with_lane_view l v p)
-    → Like (link_after (map (goes_down l) ps) link) lives unit manager (tell_all (map (goes_down l) ps) t) (with_lane_view l (with_requests l tr ps v) p)
+    → Like (link_read (map (goes_down l) ps) link) lives unit manager (tell_all (map (goes_down l) ps) t) (with_lane_view l (with_requests l tr ps v) p)
 sends_like l tr [] link lives unit manager t v p tcis name h = h
 sends_like Low tr (x ∷ ps) link lives unit manager t v p tcis name h =
     sends_like Low tr ps (sent_on (record { direction = Down; bytes = x }) link) lives unit manager (record t { names = t.names ++ t.low ∷ [] }) (with_packet (RequestOf Low tr) v) p tcis.1 name
@@ -112,7 +112,7 @@ sent_view l o v = with_sent (length o.transaction.packets) o (with_requests l o.
 
 pub sent_like : (l : Priority) (o : Outstanding) (link : Link) (lives : ℕ) (unit : Option Onu) (t : Told) (v : View) (p : Channel)
     → HaveTci (tci_at l o.transaction.place) o.transaction.packets → drawn_in l t ≡ o.transaction.id → Like link lives unit None t (with_lane_view l v p)
-    → Like (link_after (map (goes_down l) o.transaction.packets) link) lives unit None (tell_all (map (goes_down l) o.transaction.packets) t) (with_lane_view l (sent_view l o v) p)
+    → Like (link_read (map (goes_down l) o.transaction.packets) link) lives unit None (tell_all (map (goes_down l) o.transaction.packets) t) (with_lane_view l (sent_view l o v) p)
 sent_like l o link lives unit t v p tcis name h =
     like_counted l _ lives unit _ (length o.transaction.packets) o (with_requests l o.transaction o.transaction.packets v) p
       (sends_like l o.transaction o.transaction.packets link lives unit None t v p tcis name h)
@@ -161,10 +161,10 @@ draws_of_view High p = refl
 pub draw_follows : (l : Priority) (c : Command) (link : Link) (lives : ℕ) (unit : Option Onu) (m : Manager) (t : Told) (p : Channel)
     → Like link lives unit (Some m) t p → (lane_in l m).outstanding ≡ None → ((lane_in l m).proved ≡ false → c.probe ≡ true)
     → (hs : List Happening) → hs ≡ CommandDrawn l ∷ map (goes_down l) (command_packets (next_tci (lane_in l m)) c)
-    → Follows (link_after hs link) lives unit (Some (with_lane l (with_command c (lane_in l m)) m)) (tell_all hs t) p
+    → Follows (link_read hs link) lives unit (Some (with_lane l (with_command c (lane_in l m)) m)) (tell_all hs t) p
 draw_follows l c link lives unit m t p h none allowed hs is =
-    subst (λ xs. Follows (link_after xs link) lives unit (Some (with_lane l (with_command c x) m)) (tell_all xs t) p) (sym is)
-      (Draw l c.probe ps ∷ Send l ∷ [], subst (λ q. Like (link_after goes link) lives unit (Some (with_lane l (with_command c x) m)) (tell_all goes u) q) (sym moves) like)
+    subst (λ xs. Follows (link_read xs link) lives unit (Some (with_lane l (with_command c x) m)) (tell_all xs t) p) (sym is)
+      (Draw l c.probe ps ∷ Send l ∷ [], subst (λ q. Like (link_read goes link) lives unit (Some (with_lane l (with_command c x) m)) (tell_all goes u) q) (sym moves) like)
   where
     x : Lane
     x = lane_in l m
@@ -194,7 +194,7 @@ draw_follows l c link lives unit m t p h none allowed hs is =
     id = h.drawn ∙ sym (ap (λ a. length a.draws) (draws_of_view l p))
     tcis : HaveTci (tci_at l s.place) ps
     tcis = subst (λ n. HaveTci (tci_at l s.place) (command_packets n c)) (sym tci) (packets_tci l s.place c)
-    unmanaged : Like (link_after goes link) lives unit None (tell_all goes u) (with_lane_view l (sent_view l o v) p)
+    unmanaged : Like (link_read goes link) lives unit None (tell_all goes u) (with_lane_view l (sent_view l o v) p)
     unmanaged = sent_like l o link lives unit u v p tcis (draws_own l t ∙ id) (drawn_like l c.probe ps link lives unit t p (like_unmanaged link lives unit (Some m) t p h))
     last : drawn_in l (tell_all goes u) ≡ o.transaction.id
     last = lasts_stay l l ps u ∙ draws_own l t ∙ id
@@ -212,5 +212,5 @@ draw_follows l c link lives unit m t p h none allowed hs is =
         name = last;
       };
     })
-    like : Like (link_after goes link) lives unit (Some (with_lane l (with_command c x) m)) (tell_all goes u) (with_lane_view l (sent_view l o v) p)
+    like : Like (link_read goes link) lives unit (Some (with_lane l (with_command c x) m)) (tell_all goes u) (with_lane_view l (sent_view l o v) p)
     like = like_managed _ lives unit _ _ _ unmanaged (one_lane l t (tell_all goes u) m (with_command c x) (sent_view l o v) p managed (λ k ne. lasts_stay l k ps u ∙ draws_other l k t ne) after)

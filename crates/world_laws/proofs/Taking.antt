@@ -17,7 +17,7 @@ use Rattle.history_spec.specs.History.{TookReply}
 use Rattle.moves_spec.specs.Channel.{Transaction, place_number, ReplyTo, Outstanding, Channel, View, lane_view, with_lane_view}
 use Rattle.moves_spec.specs.Moves.{Move, ReplyComes, with_floor_up, with_end, with_written, take_reply, take_if_same, take_if_waiting, reply_if, may_go_up, reply_at, after_move, after_moves}
 use Rattle.moves_laws.proofs.Numbers.{place_is_number}
-use Rattle.world_spec.specs.Happenings.{Happening, PacketCame, Reported, link_after}
+use Rattle.world_spec.specs.Happenings.{Happening, PacketCame, Reported, link_read}
 use Rattle.world_spec.specs.Ends.{manager_did}
 use Rattle.world_spec.specs.History.{Told, drawn_in, tell_all}
 use Rattle.world_laws.proofs.Tcis.{lane_of_tci, same_number}

@@ -5,20 +5,20 @@ use Rattle.std.proofs.lemmas.Bool.Decides.{nat_tests}
 use Rattle.omci_types.specs.declared.Priority.{Priority}
 use Rattle.omci_types.specs.declared.Priority.TheVariants.{Low, High}
 use Rattle.omci_types.specs.declared.Frame.{Frame}
-use Rattle.tci_spec.specs.declared.TheConstants.{LAST_NUMBER, HIGH_BIT}
+use Rattle.frame_spec.specs.declared.TheConstants.{LAST_NUMBER, FIRST_HIGH_TCI}
 use Rattle.tci_spec.specs.Tci.{IsNumber, is_low, priority_of, tci_of, packet_tci}
 use Rattle.frame_spec.specs.Baseline.{checked_bytes, spelling}
 
-low_is : (tci : ℕ) → tci < HIGH_BIT → is_low tci ≡ true
+low_is : (tci : ℕ) → tci < FIRST_HIGH_TCI → is_low tci ≡ true
 low_is tci h = grind (arith, nat_tests)
 
-high_is : (tci : ℕ) → HIGH_BIT ≤ tci → is_low tci ≡ false
+high_is : (tci : ℕ) → FIRST_HIGH_TCI ≤ tci → is_low tci ≡ false
 high_is tci h = grind (arith, nat_tests)
 
 -- a command's TCI is of its lane
 pub lane_of_tci : (l : Priority) (n : ℕ) → IsNumber n → priority_of (tci_of l n) ≡ l
 lane_of_tci Low n h = ap (λ b. cond b Low High) (low_is n (omega (arith, h.most)))
-lane_of_tci High n h = ap (λ b. cond b Low High) (high_is (n + HIGH_BIT) (omega (arith)))
+lane_of_tci High n h = ap (λ b. cond b Low High) (high_is (n + FIRST_HIGH_TCI) (omega (arith)))
 
 -- and is of its number alone
 pub same_number : (l : Priority) (m n : ℕ) → tci_of l m ≡ tci_of l n → m ≡ n

@@ -16,7 +16,7 @@ use Rattle.manager_spec.specs.Manager.{Manager, Sending, Outcome, and_then, lane
 use Rattle.unit_spec.specs.Onu.{Onu}
 use Rattle.moves_spec.specs.Channel.{Transaction, place_number, Outstanding, LaneState, Channel, View, lane_view, with_lane_view}
 use Rattle.moves_spec.specs.Moves.{Move, Send, GiveUp, with_requests, with_sent, send_if, with_end, end_if, give_up_if, after_move, after_moves}
-use Rattle.world_spec.specs.Happenings.{Happening, Reported, link_after}
+use Rattle.world_spec.specs.Happenings.{Happening, Reported, link_read}
 use Rattle.world_spec.specs.Ends.{goes_down, sends}
 use Rattle.world_spec.specs.History.{Told, drawn_in, tell_all}
 use Rattle.world_laws.proofs.Likeness.{tci_at, AreWays, Awaits, IsOut, IsLane, IsLaneOf, IsManager, Like, lane_like, Waits, busy, Follows, same_view, same_manager, like_unmanaged, like_managed, like_one_lane, one_lane, like_reports, after_both}
@@ -35,10 +35,10 @@ append_nothing (x ∷ xs) = ap (λ ys. x ∷ ys) (append_nothing xs)
 repeat_follows : (l : Priority) (w : Waiting) (link : Link) (lives : ℕ) (unit : Option Onu) (m : Manager) (t : Told) (p : Channel)
     → Like link lives unit (Some m) t p → (lane_in l m).outstanding ≡ Some w
     → (hs : List Happening) → hs ≡ map (goes_down l) (command_packets w.tci w.command)
-    → Follows (link_after hs link) lives unit (Some (with_lane l (record (lane_in l m) { outstanding = Some (record w { ticks = 0; repeats = w.repeats + 1 }) }) m)) (tell_all hs t) p
+    → Follows (link_read hs link) lives unit (Some (with_lane l (record (lane_in l m) { outstanding = Some (record w { ticks = 0; repeats = w.repeats + 1 }) }) m)) (tell_all hs t) p
 repeat_follows l w link lives unit m t p h e hs is =
-    subst (λ xs. Follows (link_after xs link) lives unit (Some (with_lane l y m)) (tell_all xs t) p) (sym (is ∙ ap (map (goes_down l)) waits.awaits.packets))
-      (Send l ∷ [], subst (λ q. Like (link_after goes link) lives unit (Some (with_lane l y m)) (tell_all goes t) q) (sym (send_goes l p o waits.is)) like)
+    subst (λ xs. Follows (link_read xs link) lives unit (Some (with_lane l y m)) (tell_all xs t) p) (sym (is ∙ ap (map (goes_down l)) waits.awaits.packets))
+      (Send l ∷ [], subst (λ q. Like (link_read goes link) lives unit (Some (with_lane l y m)) (tell_all goes t) q) (sym (send_goes l p o waits.is)) like)
   where
     x : Lane
     x = lane_in l m
@@ -63,7 +63,7 @@ repeat_follows l w link lives unit m t p h e hs is =
       (subst (λ n. HaveTci (tci_at l o.transaction.place) (command_packets n w.command)) (sym a.tci) (packets_tci l o.transaction.place w.command))
     one : 1 ≡ length o.transaction.packets
     one = ap length a.packets
-    unmanaged : Like (link_after goes link) lives unit None (tell_all goes t) (with_lane_view l (sent_view l o v) p)
+    unmanaged : Like (link_read goes link) lives unit None (tell_all goes t) (with_lane_view l (sent_view l o v) p)
     unmanaged = sent_like l o link lives unit t v p tcis a.name
       (subst (λ q. Like link lives unit None t q) (sym (same_view l p)) (like_unmanaged link lives unit (Some m) t p h))
     after : IsLaneOf l (drawn_in l (tell_all goes t)) y (sent_view l o v).lane
@@ -80,7 +80,7 @@ repeat_follows l w link lives unit m t p h e hs is =
         name = lasts_stay l l o.transaction.packets t ∙ a.name;
       };
     })
-    like : Like (link_after goes link) lives unit (Some (with_lane l y m)) (tell_all goes t) (with_lane_view l (sent_view l o v) p)
+    like : Like (link_read goes link) lives unit (Some (with_lane l y m)) (tell_all goes t) (with_lane_view l (sent_view l o v) p)
     like = like_managed _ lives unit _ _ _ unmanaged
       (one_lane l t (tell_all goes t) m y (sent_view l o v) p managed (λ k ne. lasts_stay l k o.transaction.packets t) after)
 
@@ -131,7 +131,7 @@ give_up_follows l w link lives unit m t p h e many =
 
 abbrev pub OutcomeFollows : Outcome → Link → ℕ → Option Onu → Told → Channel → Type 0
 OutcomeFollows o link lives unit t p =
-    Follows (link_after (flat_map sends o.sendings) link) lives unit (Some o.manager) (tell_all (flat_map sends o.sendings) t) p
+    Follows (link_read (flat_map sends o.sendings) link) lives unit (Some o.manager) (tell_all (flat_map sends o.sendings) t) p
 
 tick_by_follows : (l : Priority) (over may : Bool) (w : Waiting) (link : Link) (lives : ℕ) (unit : Option Onu) (m : Manager) (t : Told) (p : Channel)
     → Like link lives unit (Some m) t p → (lane_in l m).outstanding ≡ Some w → nat_lt w.repeats MOST_REPEATS ≡ may

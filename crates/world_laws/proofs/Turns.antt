@@ -1,5 +1,5 @@
 -- Steps of the two ends between their rests: submissions and seconds.
-use Rattle.std.proofs.Common.{◌≡◌, ◌≢◌, ℕ, zero, suc, ◌+◌, ◌<◌, ◌≤◌, Bool, true, false, cond, List, [], ◌∷◌, ◌++◌, length, Option, Some, None, Result, Ok, Err, refl, sym, ap, subst, ◌∙◌, arith, append_assoc}
+use Rattle.std.proofs.Common.{◌≡◌, ◌≢◌, ℕ, zero, suc, ◌+◌, ◌<◌, ◌≤◌, Bool, true, false, cond, List, [], ◌∷◌, ◌++◌, length, Option, Some, None, refl, sym, ap, subst, ◌∙◌, arith, append_assoc}
 use Rattle.std.proofs.lemmas.Option.{same_Some}
 use Rattle.std.specs.Prelude.{map}
 use Rattle.std.specs.List.{flat_map}
@@ -20,7 +20,7 @@ use Rattle.manager_spec.specs.Manager.{Manager, Sending, Outcome, and_then, lane
 use Rattle.unit_spec.specs.Onu.{Onu}
 use Rattle.moves_spec.specs.Channel.{Channel}
 use Rattle.moves_spec.specs.Moves.{Move, after_moves}
-use Rattle.world_spec.specs.Happenings.{Happening, Reported, Refused, NotEnabled, CommandDrawn, link_after, on_link}
+use Rattle.world_spec.specs.Happenings.{Happening, Reported, Refused, NotEnabled, CommandDrawn, link_read, on_link}
 use Rattle.world_spec.specs.Ends.{Ends, Step, still, not_enabled, sends, goes_down, manager_did, submitted, submission, manager_ticks, second}
 use Rattle.world_spec.specs.Nodes.{Nodes, nodes_after_step}
 use Rattle.world_spec.specs.History.{Told, tell, tell_all}
@@ -45,7 +45,7 @@ not_enabled_step n t p h = ([], record { like = h.like; reports = h.reports })
 
 -- ---- lists of happenings
 
-pub link_append : (hs gs : List Happening) (l : Link) → link_after (hs ++ gs) l ≡ link_after gs (link_after hs l)
+pub link_append : (hs gs : List Happening) (l : Link) → link_read (hs ++ gs) l ≡ link_read gs (link_read hs l)
 link_append [] gs l = refl
 link_append (h ∷ hs) gs l = link_append hs gs (on_link h l)
 
@@ -72,7 +72,7 @@ one_give_up (report.Took x ∷ rs) tci h = absurd h
 one_give_up (report.Proved x ∷ rs) tci h = absurd h
 one_give_up (report.Dropped ∷ rs) tci h = absurd h
 
-pub reported_link : (rs : List Report) (hs : List Happening) (l : Link) → link_after (map Reported rs ++ hs) l ≡ link_after hs l
+pub reported_link : (rs : List Report) (hs : List Happening) (l : Link) → link_read (map Reported rs ++ hs) l ≡ link_read hs l
 reported_link [] hs l = refl
 reported_link (r ∷ rs) hs l = reported_link rs hs l
 
@@ -95,7 +95,7 @@ did_follows o n t p g f =
     (f.0, record {
       like = subst (λ l. Like l n.ends.lives n.ends.unit (Some (record o.manager { reports = [] })) (tell_all (map Reported o.manager.reports ++ hs) t) (after_moves f.0 p))
         (sym (reported_link o.manager.reports hs n.link))
-        (subst (λ u. Like (link_after hs n.link) n.ends.lives n.ends.unit (Some (record o.manager { reports = [] })) u (after_moves f.0 p))
+        (subst (λ u. Like (link_read hs n.link) n.ends.lives n.ends.unit (Some (record o.manager { reports = [] })) u (after_moves f.0 p))
           (sym (reported_told o.manager.reports hs t g))
           (like_reports [] _ _ _ o.manager _ _ f.1));
       reports = λ m e. cleared o.manager m e;
@@ -118,7 +118,7 @@ refused_follows : (r : Refusal) (n : Nodes) (t : Told) (p : Channel) → Rests n
 refused_follows r n t p h = ([], record { like = h.like; reports = h.reports })
 
 probe_by : (o : Option Waiting) (l : Priority) (m : Manager) (n : Nodes) (t : Told) (p : Channel) → Rests n t p → n.ends.manager ≡ Some m
-    → (lane_in l m).outstanding ≡ o → StepFollows (submitted (unless_refused (occupied_by o) (command_sent l probe_command m)) n.ends) n t p
+    → (lane_in l m).outstanding ≡ o → StepFollows (submitted (unless_refused (occupied_by o) (command_sent l probe_command m) m) n.ends) n t p
 probe_by None l m n t p h e f = command_follows l probe_command m n t p h e f (λ q. refl)
 probe_by (Some w) l m n t p h e f = refused_follows (Occupied w.tci) n t p h
 
@@ -129,7 +129,7 @@ probed l m n t p h e = probe_by _ l m n t p h e refl
 
 submit_by : (proved : Bool) (o : Option Waiting) (change : Option Refusal) (l : Priority) (c : Command) (m : Manager) (n : Nodes) (t : Told) (p : Channel) → Rests n t p
     → n.ends.manager ≡ Some m → (lane_in l m).proved ≡ proved → (lane_in l m).outstanding ≡ o
-    → StepFollows (submitted (unless_refused (first_refusal (cond proved None (Some (Unproven l)) ∷ occupied_by o ∷ change ∷ [])) (command_sent l c m)) n.ends) n t p
+    → StepFollows (submitted (unless_refused (first_refusal (cond proved None (Some (Unproven l)) ∷ occupied_by o ∷ change ∷ [])) (command_sent l c m) m) n.ends) n t p
 submit_by false o change l c m n t p h e q f = refused_follows (Unproven l) n t p h
 submit_by true (Some w) change l c m n t p h e q f = refused_follows (Occupied w.tci) n t p h
 submit_by true None (Some r) l c m n t p h e q f = refused_follows r n t p h
@@ -161,10 +161,10 @@ both_follow a f link lives unit t p one two =
     let next = two _ _ _ one.1 in
     let split = sends_append a.sendings b.sendings in
     (one.0 ++ next.0,
-      subst (λ hs. Like (link_after hs link) lives unit (Some b.manager) (tell_all hs t) (after_moves (one.0 ++ next.0) p)) (sym split)
+      subst (λ hs. Like (link_read hs link) lives unit (Some b.manager) (tell_all hs t) (after_moves (one.0 ++ next.0) p)) (sym split)
       (subst (λ l. Like l lives unit (Some b.manager) (tell_all (flat_map sends a.sendings ++ flat_map sends b.sendings) t) (after_moves (one.0 ++ next.0) p)) (sym (link_append (flat_map sends a.sendings) (flat_map sends b.sendings) link))
-      (subst (λ u. Like (link_after (flat_map sends b.sendings) (link_after (flat_map sends a.sendings) link)) lives unit (Some b.manager) u (after_moves (one.0 ++ next.0) p)) (sym (tell_append (flat_map sends a.sendings) (flat_map sends b.sendings) t))
-      (subst (λ q. Like (link_after (flat_map sends b.sendings) (link_after (flat_map sends a.sendings) link)) lives unit (Some b.manager) (tell_all (flat_map sends b.sendings) (tell_all (flat_map sends a.sendings) t)) q) (sym (after_both one.0 next.0 p)) next.1))))
+      (subst (λ u. Like (link_read (flat_map sends b.sendings) (link_read (flat_map sends a.sendings) link)) lives unit (Some b.manager) u (after_moves (one.0 ++ next.0) p)) (sym (tell_append (flat_map sends a.sendings) (flat_map sends b.sendings) t))
+      (subst (λ q. Like (link_read (flat_map sends b.sendings) (link_read (flat_map sends a.sendings) link)) lives unit (Some b.manager) (tell_all (flat_map sends b.sendings) (tell_all (flat_map sends a.sendings) t)) q) (sym (after_both one.0 next.0 p)) next.1))))
 
 ticked_reports : (tick : LaneTick) (l : Priority) (x : Lane) (m : Manager) → GiveUps m.reports → GiveUps (lane_ticked tick l x m).manager.reports
 ticked_reports Quiet l x m g = subst GiveUps (sym (reports_stay l x m)) g
