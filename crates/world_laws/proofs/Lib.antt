@@ -10,3 +10,4 @@ mod Arrivals
 mod Taking
 mod Lines
 pub mod Runs
+pub mod Worked
