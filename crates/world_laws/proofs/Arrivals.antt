@@ -110,15 +110,15 @@ kept_like Low k p h = h.is_low
 kept_like High k p h = h.is_high
 
 -- the unit keeps that TCI
-record KeepsIt (tci : ℕ) (o : Option Reply) : Type 0 where
-  reply : Reply
-  is : o ≡ Some reply
-  same : reply.tci ≡ tci
-  answers : if_answers tci o ≡ Some reply.packet
+pub record KeepsIt (tci : ℕ) (o : Option Reply) : Type 0 where
+  pub reply : Reply
+  pub is : o ≡ Some reply
+  pub same : reply.tci ≡ tci
+  pub answers : if_answers tci o ≡ Some reply.packet
 
-record KeepsOther (tci : ℕ) (o : Option Reply) : Type 0 where
-  differs : (r : Reply) → o ≡ Some r → r.tci ≢ tci
-  answers : if_answers tci o ≡ None
+pub record KeepsOther (tci : ℕ) (o : Option Reply) : Type 0 where
+  pub differs : (r : Reply) → o ≡ Some r → r.tci ≢ tci
+  pub answers : if_answers tci o ≡ None
 
 keeps_by : (b : Bool) (tci : ℕ) (r : Reply) → eqb r.tci tci ≡ b → KeepsIt tci (Some r) ⊎ KeepsOther tci (Some r)
 keeps_by true tci r e = inl (record { reply = r; is = refl; same = eqb-true r.tci tci e; answers = ap (λ b. cond b (Some r.packet) None) e })
@@ -127,7 +127,7 @@ keeps_by false tci r e = inr (record {
   answers = ap (λ b. cond b (Some r.packet) None) e;
 })
 
-keeps : (tci : ℕ) (o : Option Reply) → KeepsIt tci o ⊎ KeepsOther tci o
+pub keeps : (tci : ℕ) (o : Option Reply) → KeepsIt tci o ⊎ KeepsOther tci o
 keeps tci None = inr (record { differs = λ r e. absurd (cc); answers = refl })
 keeps tci (Some r) = keeps_by _ tci r refl
 
@@ -146,7 +146,7 @@ has l r (Some q) None e h = absurd h
 has l r None o e h = absurd (cc)
 
 -- it has no other number
-has_other : (l : Priority) (tci : ℕ) (x : Option Reply) (k : KeptReply) → IsKept l x (Some k) → ((r : Reply) → x ≡ Some r → r.tci ≢ tci) → tci_at l k.transaction.place ≢ tci
+pub has_other : (l : Priority) (tci : ℕ) (x : Option Reply) (k : KeptReply) → IsKept l x (Some k) → ((r : Reply) → x ≡ Some r → r.tci ≢ tci) → tci_at l k.transaction.place ≢ tci
 has_other l tci (Some q) k h d = λ e. d q refl (h.0 ∙ e)
 has_other l tci None k h d = absurd h
 
@@ -269,7 +269,7 @@ execute_follows l tr i s reply link lives u w manager t p a h differs k own =
 -- ---- what the unit makes of it
 
 -- a request under this TCI: its lane, and what is kept there
-kept_for_is : (l : Priority) (tci : ℕ) (k : Kept) → priority_of tci ≡ l → kept_for tci k ≡ if_answers tci (kept_in l k)
+pub kept_for_is : (l : Priority) (tci : ℕ) (k : Kept) → priority_of tci ≡ l → kept_for tci k ≡ if_answers tci (kept_in l k)
 unfolding kept_for
 kept_for_is l tci k e = ap (λ x. if_answers tci (kept_in x k)) e
 
@@ -277,7 +277,7 @@ kept_with_is : (l : Priority) (tci : ℕ) (reply : List ℕ) (k : Kept) → prio
 unfolding kept_with
 kept_with_is l tci reply k e = ap (λ x. keep_in x (record { tci = tci; packet = reply }) k) e
 
-asked_is : (f : Frame) (a : Answer) (u : Onu) → asked f a u ≡ unless_kept (kept_for f.tci u.kept) f.tci a u
+pub asked_is : (f : Frame) (a : Answer) (u : Onu) → asked f a u ≡ unless_kept (kept_for f.tci u.kept) f.tci a u
 unfolding asked
 asked_is f a u = refl
 

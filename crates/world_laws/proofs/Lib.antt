@@ -10,4 +10,5 @@ mod Arrivals
 mod Taking
 mod Lines
 pub mod Runs
+pub mod Reached
 pub mod Worked

@@ -51,7 +51,7 @@ view_length : (l : Priority) (p : Channel) → length (lane_view l p).shared.pac
 view_length Low p = refl
 view_length High p = refl
 
-may_down : (l : Priority) (place i : ℕ) (s : Sent) (link : Link) (p : Channel) → AreWays link.ways p.low p.high → count link ≡ length p.shared.packets
+pub may_down : (l : Priority) (place i : ℕ) (s : Sent) (link : Link) (p : Channel) → AreWays link.ways p.low p.high → count link ≡ length p.shared.packets
     → s.direction ≡ Down → packet_tci s.bytes ≡ tci_at l place → may_come i (way_of s link.ways) (count link) ≡ true → may_go_down i (lane_view l p) ≡ true
 may_down l place i s link p w n d e may =
     let lane : lane_of s.bytes ≡ l = ap priority_of e ∙ lane_of_tci l (place_number place) (place_is_number place) in
@@ -60,7 +60,7 @@ may_down l place i s link p w n d e may =
     ap (λ x. nat_le x i && is_young i (length (lane_view l p).shared.packets)) (sym floor)
     ∙ ap (λ x. nat_le (way_of s link.ways).floor i && is_young i x) (view_length l p ∙ sym n) ∙ may
 
-may_up : (l : Priority) (place i : ℕ) (s : Sent) (link : Link) (p : Channel) → AreWays link.ways p.low p.high → count link ≡ length p.shared.packets
+pub may_up : (l : Priority) (place i : ℕ) (s : Sent) (link : Link) (p : Channel) → AreWays link.ways p.low p.high → count link ≡ length p.shared.packets
     → s.direction ≡ Up → packet_tci s.bytes ≡ tci_at l place → may_come i (way_of s link.ways) (count link) ≡ true → may_go_up i (lane_view l p) ≡ true
 may_up l place i s link p w n d e may =
     let lane : lane_of s.bytes ≡ l = ap priority_of e ∙ lane_of_tci l (place_number place) (place_is_number place) in

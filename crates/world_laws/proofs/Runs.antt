@@ -20,7 +20,7 @@ use Rattle.world_laws.proofs.Likeness.{Like, some_manager, some_unit, after_both
 use Rattle.world_laws.proofs.Turns.{Rests}
 use Rattle.world_laws.proofs.Lines.{IsFair, turn_follows}
 
-abbrev AllFair : List Action → Type 0
+abbrev pub AllFair : List Action → Type 0
 AllFair [] = Unit {0}
 AllFair (a ∷ rest) = IsFair a × AllFair rest
 
@@ -42,12 +42,12 @@ fair CutUnit h = tt
 fair CutOlt h = tt
 fair StartUnit h = tt
 
-all_fair : (actions : List Action) → All IsAction actions → AllFair actions
+pub all_fair : (actions : List Action) → All IsAction actions → AllFair actions
 all_fair [] h = tt
 all_fair (a ∷ rest) h = (fair a (All-head IsAction a rest h), all_fair rest (All-tail IsAction a rest h))
 
 -- a script is moves
-script_follows : (actions : List Action) (n : Nodes) (t : Told) (p : Channel) → Rests n t p → AllFair actions
+pub script_follows : (actions : List Action) (n : Nodes) (t : Told) (p : Channel) → Rests n t p → AllFair actions
     → (ms : List Move) × Rests (nodes_after actions n) (told_after actions n t) (after_moves ms p)
 unfolding nodes_after told_after
 script_follows [] n t p h f = ([], h)
@@ -57,7 +57,7 @@ script_follows (a ∷ rest) n t p h f =
     (one.0 ++ more.0,
       subst (λ q. Rests (nodes_after rest (step a n).nodes) (told_after rest (step a n).nodes (tell_all (step a n).happenings t)) q) (sym (after_both one.0 more.0 p)) more.1)
 
-first_rests : (h : Header) → IsNumber h.low → IsNumber h.high → Rests (first_nodes h) first_told (first_channel (h.low - 1) (h.high - 1))
+pub first_rests : (h : Header) → IsNumber h.low → IsNumber h.high → Rests (first_nodes h) first_told (first_channel (h.low - 1) (h.high - 1))
 unfolding onu_started
 first_rests h a b = record {
   like = record {

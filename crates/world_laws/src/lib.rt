@@ -2,13 +2,21 @@
 //! Each function does nothing: what it ensures is the law, and a caller's proof may cite it.
 #![tactic(auto)]
 
-ghost use Rattle.std.specs.Prelude.{◌≡◌, ℕ, ◌≤◌, List, [], ◌∷◌};
+ghost use Rattle.std.specs.Prelude.{◌≡◌, ℕ, ◌≤◌, true, false, List, [], ◌∷◌, Some};
 ghost use Rattle.std.specs.List.{All};
+ghost use Rattle.omci_types.specs.declared.Priority.{Priority};
 ghost use Rattle.tci_spec.specs.Tci.{IsNumber};
+ghost use Rattle.link_spec.specs.declared.Direction.TheVariants.{Down, Up};
+ghost use Rattle.link_spec.specs.Link.{Sent};
+ghost use Rattle.lane_spec.specs.Lane.{Waiting};
+ghost use Rattle.manager_spec.specs.Manager.{Manager, lane_in};
+ghost use Rattle.unit_spec.specs.Onu.{Onu};
 ghost use Rattle.script_spec.specs.Script.{Header, Action, IsAction};
-ghost use Rattle.history_spec.specs.History.{Once, Answered};
-ghost use Rattle.world_spec.specs.History.{history_of};
+ghost use Rattle.history_spec.specs.History.{Once, Answered, WasCarried, LastReply};
+ghost use Rattle.world_spec.specs.Nodes.{Nodes};
+ghost use Rattle.world_spec.specs.History.{Told, drawn_in, name_at, history_of};
 ghost use Rattle.world_spec.specs.Trace.{trace};
+ghost use Rattle.world_laws.specs.Facts.{AreReached, MayCome, MayBeCarriedOut, MayBeTaken, IsAwaited, KeepsTci};
 ghost use Rattle.world_laws.specs.Worked.{commands_in, probe_and_get, probe_and_get_trace, unproven, unproven_trace, occupied, occupied_trace, second_change, second_change_trace, reply_again, reply_again_trace, kept_reply, kept_reply_trace, below_floor, below_floor_trace, given_up, given_up_trace, no_frames, no_frames_trace, unit_restarted, unit_restarted_trace, manager_restarted, manager_restarted_trace, created_then_read, created_then_read_trace, deleted_absent, deleted_absent_trace, set_refused, set_refused_trace, counter_set_and_reset, counter_set_and_reset_trace, number_comes_round, number_comes_round_trace};
 
 /// Whatever is delivered, lost, delivered again, sent again, given up, cut off or started: no
@@ -19,6 +27,36 @@ pub fn commands_act_once()
         → Once (history_of h actions) }
     ensures answered { (h : Header) (actions : List Action) → IsNumber h.low → IsNumber h.high → All IsAction actions
         → Answered (history_of h actions) }
+{}
+
+/// Of a packet that the unit will carry out when it comes: its command was not carried out in this
+/// life, and in a proved lane it is the outstanding command.
+pub fn requests_are_awaited()
+    ensures fresh { (lane : Priority) (n : Nodes) (t : Told) (number : ℕ) (s : Sent) (u : Onu) → AreReached n t
+        → MayBeCarriedOut lane n number s u → WasCarried n.ends.lives (name_at number t.names) t.history → ⊥ }
+    ensures awaited { (lane : Priority) (n : Nodes) (t : Told) (number : ℕ) (s : Sent) (u : Onu) (m : Manager) → AreReached n t
+        → n.ends.manager ≡ Some m → (lane_in lane m).proved ≡ true → MayBeCarriedOut lane n number s u
+        → IsAwaited lane m t number s }
+{}
+
+/// Of a reply that may come under the TCI for which the manager waits in its lane: it is the
+/// outstanding command's own, and a unit that is on keeps its TCI. Where the command isn't a probe,
+/// it was carried out in this life of the unit, and this is the reply of the last time.
+pub fn replies_are_own()
+    ensures own { (lane : Priority) (n : Nodes) (t : Told) (number : ℕ) (s : Sent) (m : Manager) (w : Waiting) → AreReached n t
+        → MayBeTaken lane n number s m w → name_at number t.names ≡ drawn_in lane t }
+    ensures kept { (lane : Priority) (n : Nodes) (t : Told) (number : ℕ) (s : Sent) (m : Manager) (w : Waiting) (u : Onu) → AreReached n t
+        → MayBeTaken lane n number s m w → n.ends.unit ≡ Some u → KeepsTci lane u w.tci }
+    ensures carried { (lane : Priority) (n : Nodes) (t : Told) (number : ℕ) (s : Sent) (m : Manager) (w : Waiting) → AreReached n t
+        → MayBeTaken lane n number s m w → w.command.probe ≡ false → WasCarried n.ends.lives (drawn_in lane t) t.history }
+    ensures reply { (lane : Priority) (n : Nodes) (t : Told) (number : ℕ) (s : Sent) (m : Manager) (w : Waiting) → AreReached n t
+        → MayBeTaken lane n number s m w → w.command.probe ≡ false → LastReply (drawn_in lane t) s.bytes t.history }
+{}
+
+/// No request that may come is of an older command than a reply that may come in its lane.
+pub fn requests_follow_replies()
+    ensures older { (lane : Priority) (n : Nodes) (t : Told) (up down : ℕ) (r s : Sent) → AreReached n t
+        → MayCome Up lane n up r → MayCome Down lane n down s → name_at up t.names ≤ name_at down t.names }
 {}
 
 /// Scripts worked by hand have the traces that were worked with them, check values included, and
