@@ -11,4 +11,5 @@ mod Taking
 mod Lines
 pub mod Runs
 pub mod Reached
+pub mod Seen
 pub mod Worked

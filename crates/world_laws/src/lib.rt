@@ -3,7 +3,7 @@
 #![tactic(auto)]
 
 ghost use Rattle.std.specs.Prelude.{◌≡◌, ℕ, ◌≤◌, true, false, List, [], ◌∷◌, Some};
-ghost use Rattle.std.specs.List.{All};
+ghost use Rattle.std.specs.List.{All, flat_map};
 ghost use Rattle.omci_types.specs.declared.Priority.{Priority};
 ghost use Rattle.tci_spec.specs.Tci.{IsNumber};
 ghost use Rattle.link_spec.specs.declared.Direction.TheVariants.{Down, Up};
@@ -11,12 +11,13 @@ ghost use Rattle.link_spec.specs.Link.{Sent};
 ghost use Rattle.lane_spec.specs.Lane.{Waiting};
 ghost use Rattle.manager_spec.specs.Manager.{Manager, lane_in};
 ghost use Rattle.unit_spec.specs.Onu.{Onu};
-ghost use Rattle.script_spec.specs.Script.{Header, Action, IsAction};
+ghost use Rattle.script_spec.specs.Script.{Header, Script, Action, IsAction};
 ghost use Rattle.history_spec.specs.History.{Once, Answered, WasCarried, LastReply};
 ghost use Rattle.world_spec.specs.Nodes.{Nodes};
 ghost use Rattle.world_spec.specs.History.{Told, drawn_in, name_at, history_of};
 ghost use Rattle.world_spec.specs.Trace.{trace};
 ghost use Rattle.world_laws.specs.Facts.{AreReached, MayCome, MayBeCarriedOut, MayBeTaken, IsAwaited, KeepsTci};
+ghost use Rattle.world_laws.specs.Seen.{all_seen, line_of, deeds, deeds_seen};
 ghost use Rattle.world_laws.specs.Worked.{commands_in, probe_and_get, probe_and_get_trace, unproven, unproven_trace, occupied, occupied_trace, second_change, second_change_trace, reply_again, reply_again_trace, kept_reply, kept_reply_trace, below_floor, below_floor_trace, given_up, given_up_trace, no_frames, no_frames_trace, unit_restarted, unit_restarted_trace, manager_restarted, manager_restarted_trace, created_then_read, created_then_read_trace, deleted_absent, deleted_absent_trace, set_refused, set_refused_trace, counter_set_and_reset, counter_set_and_reset_trace, number_comes_round, number_comes_round_trace};
 
 /// Whatever is delivered, lost, delivered again, sent again, given up, cut off or started: no
@@ -57,6 +58,13 @@ pub fn replies_are_own()
 pub fn requests_follow_replies()
     ensures older { (lane : Priority) (n : Nodes) (t : Told) (up down : ℕ) (r s : Sent) → AreReached n t
         → MayCome Up lane n up r → MayCome Down lane n down s → name_at up t.names ≤ name_at down t.names }
+{}
+
+/// The history is told of the very machine whose trace a script has: it has an entry for each
+/// `carried` and each `took` of the trace, in the same order, and no other of these.
+pub fn history_is_of_the_machine()
+    ensures seen { (s : Script) → trace s ≡ flat_map line_of (all_seen s) }
+    ensures entries { (s : Script) → deeds (history_of s.header s.actions) ≡ deeds_seen (all_seen s) [] }
 {}
 
 /// Scripts worked by hand have the traces that were worked with them, check values included, and
