@@ -1,15 +1,17 @@
--- The history of a run, newest first. Commands are numbered over the whole run, in the order in which the managers drew
--- them, probes and the commands of jobs included. Neither end knows these numbers.
+-- The history of a run, newest first. Commands are numbered over the whole run, in the order in
+-- which the managers drew them, probes and the commands of jobs included. Neither end knows these
+-- numbers.
 use Rattle.std.specs.Prelude.{ℕ, ◌≡◌, ◌≢◌, ◌⊎◌, List, [], ◌∷◌}
 use Rattle.mib_spec.specs.Database.{Database}
 
--- what happens to neither a command nor its reply
+-- what happened beside the carrying out of a command and the taking of its reply
 pub data Note : Type 0 where
   -- in that life of the unit the upload command put this database by, to be read piece by piece
   TookSnapshot : (life command : ℕ) (database : Database) → Note
 
 pub data Entry : Type 0 where
-  -- in that life of the unit the command was carried out; this is its reply's packet, and the database was this before it
+  -- in that life of the unit the command was carried out; this is its reply's packet, and the
+  -- database was this before it
   CarriedOut : (life command : ℕ) (reply : List ℕ) (before : Database) → Entry
   -- the manager took this packet as the reply to the command, which isn't a probe
   TookReply : (command : ℕ) (reply : List ℕ) → Entry

@@ -1,3 +1,3 @@
-//! The history of a run: what became of each command, and what else the laws of the channel speak of.
-//! Plain definitions alone.
+//! The history of a run: what became of each command, and what else the laws speak of. Plain
+//! definitions alone.
 #![tactic(auto)]

@@ -1,9 +1,15 @@
-mod Rows
-mod Packets
+mod Tcis
+mod Reading
 mod Unit
 mod Manager
-mod Phases
-mod Moves
+mod Likeness
+mod Sending
+mod Ticks
+mod Turns
+mod Arrivals
+mod Taking
+mod Lines
 pub mod Runs
-mod Following
-mod Entries
+pub mod Reached
+pub mod Seen
+pub mod Worked

@@ -1,45 +1,88 @@
--- What the manager may make of a packet, by the TCI that stands in it, and the numbers that it draws.
-use Rattle.std.proofs.Common.{◌≡◌, ◌≢◌, ℕ, ◌+◌, ◌≤◌, Bool, true, false, cond, eqb, ◌&&◌, ◌||◌, List, Option, Some, None, ◌⊎◌, inl, inr, refl, sym, subst, ◌∙◌, arith}
-use Rattle.std.proofs.lemmas.Bool.{eqb-true, eqb-false, and_parts}
+-- What the manager may make of a packet, by the TCI that stands in it.
+use Rattle.std.proofs.Common.{◌≡◌, ◌≢◌, ℕ, ◌+◌, Bool, true, false, cond, eqb, ◌&&◌, ◌||◌, List, Option, Some, None, ◌⊎◌, inl, inr, refl, sym, ap, subst, ◌∙◌, arith}
+use Rattle.std.proofs.lemmas.Bool.{eqb-true, and_parts}
 use Rattle.omci_types.specs.declared.Frame.{Frame}
-use Rattle.frame_spec.specs.Baseline.{frame_of, packet_frame}
-use Rattle.manager_spec.specs.declared.Outstanding.{Outstanding}
-use Rattle.manager_spec.specs.Manager.{Manager, Reception, number_after, same_entity, answers, dropped, ended, taken_if, for_outstanding, for_frame, after_packet}
-use Rattle.world_laws.proofs.Packets.{tci_in, tci-frame_of, read-frame_of}
+use Rattle.omci_types.specs.declared.Priority.{Priority}
+use Rattle.tci_spec.specs.Tci.{priority_of, packet_tci}
+use Rattle.frame_spec.specs.Baseline.{fault_of, packet_frame}
+use Rattle.lane_spec.specs.Command.{Command, command_frame, is_response, answers}
+use Rattle.lane_spec.specs.Lane.{Lane, Waiting, Replied, ended, reply_by, reply_to, lane_reply, is_probing}
+use Rattle.manager_spec.specs.Manager.{Manager, Outcome, lane_in, with_lane, with_report, sends_nothing, packet_dropped, reply_report, take_if, frame_came, for_frame, after_packet}
+use Rattle.world_laws.proofs.Reading.{tci_read, noise_read}
 
--- a packet ends the wait for a command with its TCI
-pub record Ends (bytes : List ℕ) (m : Manager) (r : Reception) : Type 0 where
-  pub command : Outstanding
-  pub waits : m.outstanding ≡ Some command
-  pub same : tci_in bytes ≡ command.tci
-  pub is : r ≡ ended command.probe (frame_of bytes) m
+-- a frame is the reply to the command that is outstanding in a lane
+pub record Replies (f : Frame) (l : Lane) (r : Replied) : Type 0 where
+  pub waiting : Waiting
+  pub waits : l.outstanding ≡ Some waiting
+  pub same : f.tci ≡ waiting.tci
+  pub is : r ≡ record { lane = ended waiting l; taken = true }
 
-taken_if-is : (b : Bool) (bytes : List ℕ) (o : Outstanding) (m : Manager) → answers o (frame_of bytes) ≡ b → m.outstanding ≡ Some o → (taken_if b o.probe (frame_of bytes) m ≡ dropped m) ⊎ Ends bytes m (taken_if b o.probe (frame_of bytes) m)
-taken_if-is true bytes o m test waits =
-    let f = frame_of bytes in
-    let equal : f.tci ≡ o.tci = eqb-true f.tci o.tci (and_parts (eqb f.tci o.tci) (o.probe || (eqb (f.kind + 32) o.kind && same_entity f.entity o.entity)) test).0 in
-    inr (record { command = o; waits = waits; same = sym (tci-frame_of bytes) ∙ equal; is = refl })
-taken_if-is false bytes o m test waits = inl refl
+reply_by_is : (b : Bool) (f : Frame) (w : Waiting) (l : Lane) → answers w.tci w.command f ≡ b → l.outstanding ≡ Some w
+    → ((reply_by b w l).taken ≡ false) ⊎ Replies f l (reply_by b w l)
+reply_by_is true f w l t e = inr (record {
+  waiting = w;
+  waits = e;
+  same = eqb-true f.tci w.tci (and_parts (eqb f.tci w.tci) (w.command.probe || is_response (command_frame w.tci w.command) f) t).0;
+  is = refl;
+})
+reply_by_is false f w l t e = inl refl
 
-for_outstanding-is : (o : Option Outstanding) (bytes : List ℕ) (m : Manager) → m.outstanding ≡ o → (for_outstanding o (frame_of bytes) m ≡ dropped m) ⊎ Ends bytes m (for_outstanding o (frame_of bytes) m)
-for_outstanding-is None bytes m waits = inl refl
-for_outstanding-is (Some o) bytes m waits = taken_if-is (answers o (frame_of bytes)) bytes o m refl waits
+reply_to_is : (o : Option Waiting) (f : Frame) (l : Lane) → l.outstanding ≡ o
+    → ((reply_to o f l).taken ≡ false) ⊎ Replies f l (reply_to o f l)
+reply_to_is None f l e = inl refl
+reply_to_is (Some w) f l e = reply_by_is _ f w l refl e
 
-for_frame-is : (o : Option Frame) (bytes : List ℕ) (m : Manager) → packet_frame bytes ≡ o → (for_frame o m ≡ dropped m) ⊎ Ends bytes m (for_frame o m)
-for_frame-is None bytes m e = inl refl
-for_frame-is (Some f) bytes m e = subst (λ (g : Frame). (for_frame (Some g) m ≡ dropped m) ⊎ Ends bytes m (for_frame (Some g) m)) (sym (read-frame_of bytes f e)) (for_outstanding-is m.outstanding bytes m refl)
+lane_reply_is : (f : Frame) (l : Lane) → ((lane_reply f l).taken ≡ false) ⊎ Replies f l (lane_reply f l)
+unfolding lane_reply
+lane_reply_is f l = reply_to_is l.outstanding f l refl
 
--- a packet is dropped, or ends the wait for the outstanding command
-pub heard : (bytes : List ℕ) (m : Manager) → (after_packet bytes m ≡ dropped m) ⊎ Ends bytes m (after_packet bytes m)
+-- the manager after it took the frame as the reply to that command
+abbrev pub taken_by : Priority → Frame → Waiting → Manager → Outcome
+taken_by lane f w m =
+    sends_nothing (with_report (reply_report w.command.probe lane f) (with_lane lane (ended w (lane_in lane m)) m))
+
+-- a packet with this TCI is taken
+pub record IsTaken (tci : ℕ) (m : Manager) (o : Outcome) : Type 0 where
+  pub frame : Frame
+  pub waiting : Waiting
+  pub tci_is : frame.tci ≡ tci
+  pub waits : (lane_in (priority_of tci) m).outstanding ≡ Some waiting
+  pub same : tci ≡ waiting.tci
+  pub is : o ≡ taken_by (priority_of tci) frame waiting m
+
+frame_came_is : (f : Frame) (m : Manager)
+    → (frame_came (priority_of f.tci) f m ≡ packet_dropped m) ⊎ IsTaken f.tci m (frame_came (priority_of f.tci) f m)
+frame_came_is f m = go (lane_reply_is f (lane_in lane m))
+  where
+    lane : Priority
+    lane = priority_of f.tci
+    go : ((lane_reply f (lane_in lane m)).taken ≡ false) ⊎ Replies f (lane_in lane m) (lane_reply f (lane_in lane m))
+      → (frame_came lane f m ≡ packet_dropped m) ⊎ IsTaken f.tci m (frame_came lane f m)
+    go (inl drops) = inl (ap (λ b. take_if b lane f m) drops)
+    go (inr r) = inr (record {
+      frame = f;
+      waiting = r.waiting;
+      tci_is = refl;
+      waits = r.waits;
+      same = r.same;
+      is = ap (λ b. take_if b lane f m) (ap (λ x. x.taken) r.is)
+        ∙ ap (λ (o : Option Waiting). sends_nothing (with_report (reply_report (is_probing o) lane f) (with_lane lane (lane_reply f (lane_in lane m)).lane m))) r.waits
+        ∙ ap (λ (l : Lane). sends_nothing (with_report (reply_report r.waiting.command.probe lane f) (with_lane lane l m))) (ap (λ x. x.lane) r.is);
+    })
+
+for_frame_is : (o : Option Frame) (bytes : List ℕ) (m : Manager) → packet_frame bytes ≡ o
+    → (for_frame o m ≡ packet_dropped m) ⊎ IsTaken (packet_tci bytes) m (for_frame o m)
+for_frame_is None bytes m e = inl refl
+for_frame_is (Some f) bytes m e =
+    subst (λ tci. (for_frame (Some f) m ≡ packet_dropped m) ⊎ IsTaken tci m (for_frame (Some f) m)) (tci_read bytes f e) (frame_came_is f m)
+
+-- a packet is dropped, or ends the wait of a lane
+pub heard : (bytes : List ℕ) (m : Manager)
+    → (after_packet bytes m ≡ packet_dropped m) ⊎ IsTaken (packet_tci bytes) m (after_packet bytes m)
 unfolding after_packet
-heard bytes m = for_frame-is (packet_frame bytes) bytes m refl
+heard bytes m = for_frame_is (packet_frame bytes) bytes m refl
 
--- ---- the numbers of commands
-
-next-by : (b : Bool) (n : ℕ) → eqb n 32767 ≡ b → 1 ≤ n → n ≤ 32767 → (1 ≤ cond b 1 (n + 1)) × (cond b 1 (n + 1) ≤ 32767) × (n ≢ cond b 1 (n + 1))
-next-by true n e some most = let last : n ≡ 32767 = eqb-true n 32767 e in (omega arith, omega arith, omega arith)
-next-by false n e some most = let other : n ≢ 32767 = eqb-false n 32767 e in (omega arith, omega arith, omega arith)
-
--- the number after a number is another one of the same range
-pub number_after-other : (n : ℕ) → 1 ≤ n → n ≤ 32767 → (1 ≤ number_after n) × (number_after n ≤ 32767) × (n ≢ number_after n)
-number_after-other n some most = next-by (eqb n 32767) n refl some most
+-- noise is dropped
+pub noise_heard : (bytes : List ℕ) (m : Manager) → fault_of bytes ≢ None → after_packet bytes m ≡ packet_dropped m
+unfolding after_packet
+noise_heard bytes m h = ap (λ o. for_frame o m) (noise_read bytes h)

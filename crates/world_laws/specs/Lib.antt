@@ -1,2 +1,3 @@
-pub mod Rows
+pub mod Worked
+pub mod Facts
 pub mod Seen

@@ -1,52 +1,77 @@
--- What is seen of the machine over a script, and which of it the entries of the history stand for.
-use Rattle.std.specs.Prelude.{ℕ, Bool, true, false, List, [], ◌∷◌, ◌++◌}
-use Rattle.frame_spec.specs.Baseline.{frame_of}
-use Rattle.unit_spec.specs.declared.Did.TheVariants as did
+-- What is seen of the machine over a script, and what of it stands in the history.
+use Rattle.std.specs.Prelude.{ℕ, ◌+◌, List, [], ◌∷◌, ◌++◌, map}
+use Rattle.link_spec.specs.Link.{count}
+use Rattle.manager_spec.specs.declared.Report.{Report}
 use Rattle.manager_spec.specs.declared.Report.TheVariants as report
 use Rattle.script_spec.specs.Script.{Script, Action}
-use Rattle.world_spec.specs.Nodes.{Effect, UnitStarted, UnitDid, Reported, Nodes, step, first_nodes, factory_software}
-use Rattle.world_spec.specs.Trace.{line_text}
-use Rattle.world_spec.specs.History.{Entry, CarriedOut, TookReply}
+use Rattle.history_spec.specs.History.{Entry, CarriedOut, TookReply, Noted}
+use Rattle.world_spec.specs.declared.Effect.{Effect}
+use Rattle.world_spec.specs.declared.Effect.TheVariants as effect
+use Rattle.world_spec.specs.Happenings.{Happening, packets_in}
+use Rattle.world_spec.specs.Ends.{factory_software}
+use Rattle.world_spec.specs.Nodes.{Nodes, step, first_nodes}
+use Rattle.world_spec.specs.Trace.{effects_of, line_text}
 
--- an effect, with the number of its event
+-- an effect, and the number of its event
 pub record Seen : Type 0 where
   pub event : ℕ
   pub effect : Effect
 
-abbrev pub numbered : ℕ → List Effect → List Seen
-numbered event [] = []
-numbered event (effect ∷ effects) = record { event = event; effect = effect } ∷ numbered event effects
+abbrev pub seen_at : ℕ → Effect → Seen
+seen_at event effect = record { event = event; effect = effect }
 
--- what is seen of the machine over these lines
-unfoldable pub seen_after : List Action → Nodes → List Seen
-seen_after [] n = []
-seen_after (a ∷ rest) n = numbered (step a n).nodes.event (step a n).effects ++ seen_after rest (step a n).nodes
+-- what is seen of what happened in an event, whose first packet has that number
+abbrev pub seen_in : ℕ → ℕ → List Happening → List Seen
+seen_in event next [] = []
+seen_in event next (h ∷ rest) =
+    map (seen_at event) (effects_of next h) ++ seen_in event (next + packets_in (h ∷ [])) rest
+
+-- what is seen over these lines
+unfoldable pub seen_from : List Action → Nodes → List Seen
+seen_from [] n = []
+seen_from (a ∷ rest) n =
+    seen_in (step a n).nodes.ends.event (count n.link) (step a n).happenings
+    ++ seen_from rest (step a n).nodes
 
 -- and over a script, the unit's start before it
 abbrev pub all_seen : Script → List Seen
 all_seen s =
-    record { event = 0; effect = UnitStarted 1 (factory_software s.header.factory) } ∷ seen_after s.actions (first_nodes s.header)
+    seen_at 0 (effect.UnitStarted 1 (factory_software s.header.factory))
+    ∷ seen_from s.actions (first_nodes s.header)
 
 -- its line in the trace
 abbrev pub line_of : Seen → List ℕ
-line_of seen = line_text seen.event seen.effect
+line_of s = line_text s.event s.effect
 
--- what is seen of the machine where the history gets this entry
-abbrev pub effect_of : Entry → Effect
-effect_of (CarriedOut life command reply before) = UnitDid life did.Carried
-effect_of (TookReply command reply) = Reported (report.Took (frame_of reply))
+-- what both the history and the trace tell
+pub data Deed : Type 0 where
+  CarriedIn : (life : ℕ) → Deed
+  TookOne : Deed
 
--- whether the history gets an entry where this is seen
-abbrev pub has_entry : Effect → Bool
-has_entry (UnitDid life did.Carried) = true
-has_entry (Reported (report.Took reply)) = true
-has_entry _ = false
+-- what the history tells, newest first
+abbrev pub deeds : List Entry → List Deed
+deeds [] = []
+deeds (CarriedOut life command reply before ∷ older) = CarriedIn life ∷ deeds older
+deeds (TookReply command reply ∷ older) = TookOne ∷ deeds older
+deeds (Noted note ∷ older) = deeds older
 
-abbrev pub before_if : Bool → Effect → List Effect → List Effect
-before_if true effect older = effect ∷ older
-before_if false effect older = older
+abbrev pub with_report : Report → List Deed → List Deed
+with_report (report.Took reply) older = TookOne ∷ older
+with_report (report.Proved lane) older = older
+with_report (report.GaveUp tci) older = older
+with_report report.Dropped older = older
 
--- those of some effects that have an entry, newest first, before older ones
-abbrev pub entered : List Seen → List Effect → List Effect
-entered [] older = older
-entered (seen ∷ later) older = entered later (before_if (has_entry seen.effect) seen.effect older)
+abbrev pub with_effect : Effect → List Deed → List Deed
+with_effect (effect.UnitStarted life software) older = older
+with_effect (effect.PacketSent number direction frame) older = older
+with_effect (effect.Carried life) older = CarriedIn life ∷ older
+with_effect effect.Kept older = older
+with_effect effect.Dropped older = older
+with_effect (effect.Refused why) older = older
+with_effect (effect.Reported what) older = with_report what older
+with_effect effect.NotEnabled older = older
+
+-- what is told by what is seen, newest first, before what is older
+abbrev pub deeds_seen : List Seen → List Deed → List Deed
+deeds_seen [] older = older
+deeds_seen (s ∷ later) older = deeds_seen later (with_effect s.effect older)

@@ -1,41 +1,65 @@
-use Rattle.world_laws.proofs.Rows.{below_floor-evaluated, kept_reply-history, created_then_read-history, probe_and_get-evaluated, unproven-evaluated, occupied-evaluated, reply_again-evaluated, kept_reply-evaluated, created_then_read-evaluated, deleted_absent-evaluated, set_refused-evaluated, counter_set_and_reset-evaluated, number_comes_round-evaluated}
+use Rattle.world_laws.proofs.Worked.{Traces, traces, Histories, histories}
 use Rattle.world_laws.proofs.worked_scripts.Goals as goal
 
 pub returns-clause-probe_and_get : goal.returns-clause-probe_and_get
-returns-clause-probe_and_get c = probe_and_get-evaluated
+returns-clause-probe_and_get c = traces.probe_and_get-is
 
 pub returns-clause-unproven : goal.returns-clause-unproven
-returns-clause-unproven c = unproven-evaluated
+returns-clause-unproven c = traces.unproven-is
 
 pub returns-clause-occupied : goal.returns-clause-occupied
-returns-clause-occupied c = occupied-evaluated
+returns-clause-occupied c = traces.occupied-is
+
+pub returns-clause-second_change : goal.returns-clause-second_change
+returns-clause-second_change c = traces.second_change-is
 
 pub returns-clause-reply_again : goal.returns-clause-reply_again
-returns-clause-reply_again c = reply_again-evaluated
+returns-clause-reply_again c = traces.reply_again-is
 
 pub returns-clause-kept_reply : goal.returns-clause-kept_reply
-returns-clause-kept_reply c = kept_reply-evaluated
-
-pub returns-clause-created_then_read : goal.returns-clause-created_then_read
-returns-clause-created_then_read c = created_then_read-evaluated
-
-pub returns-clause-deleted_absent : goal.returns-clause-deleted_absent
-returns-clause-deleted_absent c = deleted_absent-evaluated
-
-pub returns-clause-set_refused : goal.returns-clause-set_refused
-returns-clause-set_refused c = set_refused-evaluated
-
-pub returns-clause-counter_set_and_reset : goal.returns-clause-counter_set_and_reset
-returns-clause-counter_set_and_reset c = counter_set_and_reset-evaluated
-
-pub returns-clause-number_comes_round : goal.returns-clause-number_comes_round
-returns-clause-number_comes_round c = number_comes_round-evaluated
+returns-clause-kept_reply c = traces.kept_reply-is
 
 pub returns-clause-below_floor : goal.returns-clause-below_floor
-returns-clause-below_floor c = below_floor-evaluated
+returns-clause-below_floor c = traces.below_floor-is
+
+pub returns-clause-given_up : goal.returns-clause-given_up
+returns-clause-given_up c = traces.given_up-is
+
+pub returns-clause-no_frames : goal.returns-clause-no_frames
+returns-clause-no_frames c = traces.no_frames-is
+
+pub returns-clause-unit_restarted : goal.returns-clause-unit_restarted
+returns-clause-unit_restarted c = traces.unit_restarted-is
+
+pub returns-clause-manager_restarted : goal.returns-clause-manager_restarted
+returns-clause-manager_restarted c = traces.manager_restarted-is
+
+pub returns-clause-created_then_read : goal.returns-clause-created_then_read
+returns-clause-created_then_read c = traces.created_then_read-is
+
+pub returns-clause-deleted_absent : goal.returns-clause-deleted_absent
+returns-clause-deleted_absent c = traces.deleted_absent-is
+
+pub returns-clause-set_refused : goal.returns-clause-set_refused
+returns-clause-set_refused c = traces.set_refused-is
+
+pub returns-clause-counter_set_and_reset : goal.returns-clause-counter_set_and_reset
+returns-clause-counter_set_and_reset c = traces.counter_set_and_reset-is
+
+pub returns-clause-number_comes_round : goal.returns-clause-number_comes_round
+returns-clause-number_comes_round c = traces.number_comes_round-is
 
 pub returns-clause-kept_reply_history : goal.returns-clause-kept_reply_history
-returns-clause-kept_reply_history c = kept_reply-history
+returns-clause-kept_reply_history c = histories.kept_reply-is
+
+pub returns-clause-given_up_history : goal.returns-clause-given_up_history
+returns-clause-given_up_history c = histories.given_up-is
+
+pub returns-clause-unit_restarted_history : goal.returns-clause-unit_restarted_history
+returns-clause-unit_restarted_history c = histories.unit_restarted-is
+
+pub returns-clause-manager_restarted_history : goal.returns-clause-manager_restarted_history
+returns-clause-manager_restarted_history c = histories.manager_restarted-is
 
 pub returns-clause-created_then_read_history : goal.returns-clause-created_then_read_history
-returns-clause-created_then_read_history c = created_then_read-history
+returns-clause-created_then_read_history c = histories.created_then_read-is

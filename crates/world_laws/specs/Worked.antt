@@ -1,10 +1,12 @@
--- Scripts worked by hand, and their traces. Each has the header `omci 1 4096 1 1 ff`, but the last one has
--- `omci 1 4096 32767 1 ff`.
-use Rattle.std.specs.Prelude.{ℕ, List, [], ◌∷◌, ◌++◌, codes, map}
+-- Scripts worked by hand, and their traces. Each has the header `omci 1 4096 1 1 ff`, but the last
+-- one has `omci 1 4096 32767 1 ff`.
+use Rattle.std.specs.Prelude.{ℕ, List, [], ◌∷◌, ◌++◌, codes}
+use Rattle.std.specs.List.{flat_map}
 use Rattle.omci_types.specs.declared.EntityId.{EntityId}
-use Rattle.omci_types.specs.declared.Priority.TheVariants.{Low}
-use Rattle.world_spec.specs.History.{Entry, CarriedOut, TookReply, history_of}
-use Rattle.script_spec.specs.Script.{Header, Script, Probe, Get, Create, Set, Delete, Reset, Deliver, Flow}
+use Rattle.omci_types.specs.declared.Priority.TheVariants.{Low, High}
+use Rattle.history_spec.specs.History.{Entry, CarriedOut, TookReply, Noted}
+use Rattle.script_spec.specs.Script.{Header, Script, Probe, Reset, Get, Create, Set, Delete, Deliver, Flow, NoiseUnit, NoiseOlt, Tick, CutUnit, CutOlt, StartUnit, StartOlt}
+use Rattle.world_spec.specs.History.{history_of}
 
 abbrev pub header : Header
 header = record { room = 4096; low = 1; high = 1; factory = 255 ∷ [] }
@@ -28,7 +30,11 @@ unit_line = line (codes "0 unit 1 0 0 1:000000ff -")
 
 -- a probe and a get
 unfoldable pub probe_and_get : Script
-probe_and_get = record { header = header; actions = Probe Low ∷ Deliver 0 ∷ Deliver 1 ∷ Get Low onu_data 32768 ∷ Deliver 2 ∷ Deliver 3 ∷ [] }
+probe_and_get = record {
+  header = header;
+  actions =
+      Probe Low ∷ Deliver 0 ∷ Deliver 1 ∷ Get Low onu_data 32768 ∷ Deliver 2 ∷ Deliver 3 ∷ [];
+}
 
 unfoldable pub probe_and_get_trace : List ℕ
 probe_and_get_trace =
@@ -61,9 +67,35 @@ occupied_trace =
     ++ line (codes "1 sent 0 down 0001 0a get 2 0 80")
     ++ line (codes "2 refused occupied 0001")
 
+-- the lanes take one change at a time
+unfoldable pub second_change : Script
+second_change = record {
+  header = header;
+  actions =
+      Probe Low ∷ Probe High ∷ Flow 4 ∷ Reset Low ∷ Reset High ∷ [];
+}
+
+unfoldable pub second_change_trace : List ℕ
+second_change_trace =
+    unit_line
+    ++ line (codes "1 sent 0 down 0001 0a get 2 0 80")
+    ++ line (codes "2 sent 1 down 8001 0a get 2 0 80")
+    ++ line (codes "3 carried 1")
+    ++ line (codes "3 sent 2 up 0001 0a get-r 2 0 0080")
+    ++ line (codes "3 carried 1")
+    ++ line (codes "3 sent 3 up 8001 0a get-r 2 0 0080")
+    ++ line (codes "3 proved low")
+    ++ line (codes "3 proved high")
+    ++ line (codes "4 sent 4 down 0002 0a reset 2 0 -")
+    ++ line (codes "5 refused change 0002")
+
 -- a reply that comes again, and a packet that isn't there
 unfoldable pub reply_again : Script
-reply_again = record { header = header; actions = Probe Low ∷ Deliver 0 ∷ Deliver 1 ∷ Deliver 1 ∷ Deliver 9 ∷ [] }
+reply_again = record {
+  header = header;
+  actions =
+      Probe Low ∷ Deliver 0 ∷ Deliver 1 ∷ Deliver 1 ∷ Deliver 9 ∷ [];
+}
 
 unfoldable pub reply_again_trace : List ℕ
 reply_again_trace =
@@ -77,7 +109,11 @@ reply_again_trace =
 
 -- a request that comes again is answered by the kept reply
 unfoldable pub kept_reply : Script
-kept_reply = record { header = header; actions = Probe Low ∷ Deliver 0 ∷ Deliver 0 ∷ Deliver 1 ∷ Deliver 2 ∷ Deliver 9 ∷ [] }
+kept_reply = record {
+  header = header;
+  actions =
+      Probe Low ∷ Deliver 0 ∷ Deliver 0 ∷ Deliver 1 ∷ Deliver 2 ∷ Deliver 9 ∷ [];
+}
 
 unfoldable pub kept_reply_trace : List ℕ
 kept_reply_trace =
@@ -95,7 +131,9 @@ kept_reply_trace =
 unfoldable pub below_floor : Script
 below_floor = record {
   header = header;
-  actions = Probe Low ∷ Deliver 0 ∷ Deliver 1 ∷ Get Low onu_data 32768 ∷ Deliver 2 ∷ Deliver 0 ∷ Deliver 3 ∷ Deliver 1 ∷ [];
+  actions =
+      Probe Low ∷ Deliver 0 ∷ Deliver 1 ∷ Get Low onu_data 32768 ∷ Deliver 2 ∷ Deliver 0
+      ∷ Deliver 3 ∷ Deliver 1 ∷ [];
 }
 
 unfoldable pub below_floor_trace : List ℕ
@@ -112,9 +150,102 @@ below_floor_trace =
     ++ line (codes "7 took 0002 0a get-r 2 0 0080")
     ++ line (codes "8 not enabled")
 
+-- a probe is sent three times and given up, and then its requests come in disorder
+unfoldable pub given_up : Script
+given_up = record {
+  header = header;
+  actions =
+      Probe High ∷ Tick ∷ Tick ∷ Tick ∷ Deliver 1 ∷ Deliver 3 ∷ Deliver 0 ∷ Deliver 2
+      ∷ Deliver 9 ∷ [];
+}
+
+unfoldable pub given_up_trace : List ℕ
+given_up_trace =
+    unit_line
+    ++ line (codes "1 sent 0 down 8001 0a get 2 0 80")
+    ++ line (codes "2 sent 1 down 8001 0a get 2 0 80")
+    ++ line (codes "3 sent 2 down 8001 0a get 2 0 80")
+    ++ line (codes "4 gave up 8001")
+    ++ line (codes "5 carried 1")
+    ++ line (codes "5 sent 3 up 8001 0a get-r 2 0 0080")
+    ++ line (codes "6 dropped")
+    ++ line (codes "7 not enabled")
+    ++ line (codes "8 kept")
+    ++ line (codes "8 sent 4 up 8001 0a get-r 2 0 0080")
+    ++ line (codes "9 not enabled")
+
+-- bytes that are no frame
+unfoldable pub no_frames : Script
+no_frames = record { header = header; actions = NoiseUnit (0 ∷ []) ∷ NoiseOlt (0 ∷ []) ∷ [] }
+
+unfoldable pub no_frames_trace : List ℕ
+no_frames_trace =
+    unit_line
+    ++ line (codes "1 dropped")
+    ++ line (codes "2 dropped")
+
+-- a get that was on its way when the unit lost its power is carried out in its next life
+unfoldable pub unit_restarted : Script
+unit_restarted = record {
+  header = header;
+  actions =
+      Probe Low ∷ Flow 2 ∷ Get Low onu_data 32768 ∷ CutUnit ∷ Deliver 2 ∷ StartUnit ∷ Deliver 2
+      ∷ Tick ∷ Tick ∷ Tick ∷ Flow 2 ∷ [];
+}
+
+unfoldable pub unit_restarted_trace : List ℕ
+unit_restarted_trace =
+    unit_line
+    ++ line (codes "1 sent 0 down 0001 0a get 2 0 80")
+    ++ line (codes "2 carried 1")
+    ++ line (codes "2 sent 1 up 0001 0a get-r 2 0 0080")
+    ++ line (codes "2 proved low")
+    ++ line (codes "3 sent 2 down 0002 0a get 2 0 80")
+    ++ line (codes "5 not enabled")
+    ++ line (codes "6 unit 2 0 0 1:000000ff -")
+    ++ line (codes "7 not enabled")
+    ++ line (codes "10 sent 3 down 0002 0a get 2 0 80")
+    ++ line (codes "11 carried 2")
+    ++ line (codes "11 sent 4 up 0002 0a get-r 2 0 0080")
+    ++ line (codes "11 took 0002 0a get-r 2 0 0080")
+
+-- a manager starts under a number whose reply the unit keeps: its probe is answered by that
+unfoldable pub manager_restarted : Script
+manager_restarted = record {
+  header = header;
+  actions =
+      Probe Low ∷ Flow 2 ∷ Reset Low ∷ Flow 2 ∷ CutOlt ∷ StartOlt 2 1 ∷ Probe Low ∷ Flow 2
+      ∷ Reset Low ∷ Flow 2 ∷ [];
+}
+
+unfoldable pub manager_restarted_trace : List ℕ
+manager_restarted_trace =
+    unit_line
+    ++ line (codes "1 sent 0 down 0001 0a get 2 0 80")
+    ++ line (codes "2 carried 1")
+    ++ line (codes "2 sent 1 up 0001 0a get-r 2 0 0080")
+    ++ line (codes "2 proved low")
+    ++ line (codes "3 sent 2 down 0002 0a reset 2 0 -")
+    ++ line (codes "4 carried 1")
+    ++ line (codes "4 sent 3 up 0002 0a reset-r 2 0 -")
+    ++ line (codes "4 took 0002 0a reset-r 2 0 -")
+    ++ line (codes "7 sent 4 down 0002 0a get 2 0 80")
+    ++ line (codes "8 kept")
+    ++ line (codes "8 sent 5 up 0002 0a reset-r 2 0 -")
+    ++ line (codes "8 proved low")
+    ++ line (codes "9 sent 6 down 0003 0a reset 2 0 -")
+    ++ line (codes "10 carried 1")
+    ++ line (codes "10 sent 7 up 0003 0a reset-r 2 0 -")
+    ++ line (codes "10 took 0003 0a reset-r 2 0 -")
+
 -- a create, and a get of the counter after it
 unfoldable pub created_then_read : Script
-created_then_read = record { header = header; actions = Probe Low ∷ Flow 2 ∷ Create Low (entity 272 5) (0 ∷ 48 ∷ []) ∷ Flow 2 ∷ Get Low onu_data 32768 ∷ Flow 2 ∷ [] }
+created_then_read = record {
+  header = header;
+  actions =
+      Probe Low ∷ Flow 2 ∷ Create Low (entity 272 5) (0 ∷ 48 ∷ []) ∷ Flow 2
+      ∷ Get Low onu_data 32768 ∷ Flow 2 ∷ [];
+}
 
 unfoldable pub created_then_read_trace : List ℕ
 created_then_read_trace =
@@ -134,7 +265,11 @@ created_then_read_trace =
 
 -- a delete of what isn't there
 unfoldable pub deleted_absent : Script
-deleted_absent = record { header = header; actions = Probe Low ∷ Flow 2 ∷ Delete Low (entity 272 9) ∷ Flow 2 ∷ [] }
+deleted_absent = record {
+  header = header;
+  actions =
+      Probe Low ∷ Flow 2 ∷ Delete Low (entity 272 9) ∷ Flow 2 ∷ [];
+}
 
 unfoldable pub deleted_absent_trace : List ℕ
 deleted_absent_trace =
@@ -150,7 +285,11 @@ deleted_absent_trace =
 
 -- a set of attributes that may not be written
 unfoldable pub set_refused : Script
-set_refused = record { header = header; actions = Probe Low ∷ Flow 2 ∷ Set Low (entity 11 257) 3328 (1 ∷ 1 ∷ 6 ∷ 0 ∷ []) ∷ Flow 2 ∷ [] }
+set_refused = record {
+  header = header;
+  actions =
+      Probe Low ∷ Flow 2 ∷ Set Low (entity 11 257) 3328 (1 ∷ 1 ∷ 6 ∷ 0 ∷ []) ∷ Flow 2 ∷ [];
+}
 
 unfoldable pub set_refused_trace : List ℕ
 set_refused_trace =
@@ -166,7 +305,12 @@ set_refused_trace =
 
 -- a set of the counter, a get after it, a reset, and a get after that
 unfoldable pub counter_set_and_reset : Script
-counter_set_and_reset = record { header = header; actions = Probe Low ∷ Flow 2 ∷ Set Low onu_data 32768 (255 ∷ []) ∷ Flow 2 ∷ Get Low onu_data 32768 ∷ Flow 2 ∷ Reset Low ∷ Flow 9 ∷ Get Low onu_data 32768 ∷ Flow 2 ∷ [] }
+counter_set_and_reset = record {
+  header = header;
+  actions =
+      Probe Low ∷ Flow 2 ∷ Set Low onu_data 32768 (255 ∷ []) ∷ Flow 2 ∷ Get Low onu_data 32768
+      ∷ Flow 2 ∷ Reset Low ∷ Flow 9 ∷ Get Low onu_data 32768 ∷ Flow 2 ∷ [];
+}
 
 unfoldable pub counter_set_and_reset_trace : List ℕ
 counter_set_and_reset_trace =
@@ -194,7 +338,11 @@ counter_set_and_reset_trace =
 
 -- the number after 32,767 is 1
 unfoldable pub number_comes_round : Script
-number_comes_round = record { header = last_number; actions = Probe Low ∷ Flow 2 ∷ Get Low onu_data 32768 ∷ [] }
+number_comes_round = record {
+  header = last_number;
+  actions =
+      Probe Low ∷ Flow 2 ∷ Get Low onu_data 32768 ∷ [];
+}
 
 unfoldable pub number_comes_round_trace : List ℕ
 number_comes_round_trace =
@@ -205,10 +353,12 @@ number_comes_round_trace =
     ++ line (codes "2 proved low")
     ++ line (codes "3 sent 2 down 0001 0a get 2 0 80")
 
--- the commands of the entries of a script's history, newest first
-abbrev pub command_of : Entry → ℕ
-command_of (CarriedOut life command reply before) = command
-command_of (TookReply command reply) = command
+-- the command of an entry
+abbrev pub command_of : Entry → List ℕ
+command_of (CarriedOut life command reply before) = command ∷ []
+command_of (TookReply command reply) = command ∷ []
+command_of (Noted note) = []
 
+-- the commands of the entries of a script's history, newest first
 abbrev pub commands_in : Script → List ℕ
-commands_in s = map command_of (history_of s.header s.actions)
+commands_in s = flat_map command_of (history_of s.header s.actions)

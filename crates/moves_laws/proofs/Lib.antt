@@ -1,0 +1,10 @@
+pub mod Parts
+pub mod Lists
+pub mod Sending
+pub mod Numbers
+pub mod Serving
+pub mod Ending
+pub mod Others
+pub mod Steps
+pub mod Runs
+pub mod Reached
