@@ -189,3 +189,7 @@ pub flow_ends : (times : ℕ) (first now : Seen) (before text : List ℕ) → Fl
 flow_ends times first now before text so_far l same =
     let at = so_far l same in
     flow_over times 0 first now before text l same at (flow_zero (nodes_of now (link_read at.happened l)))
+
+-- a delivery over what is held is the delivery over the link
+pub delivered_on_link : (number : ℕ) (w new : Seen) (before after : List ℕ) → shown new after ≡ followed (delivered_one (held_allowed number w.held) number w.ends) w before → (l : Link) → w.held ≡ held_of l → shown new after ≡ followed (delivered number (nodes_of w l)) w before
+delivered_on_link number w new before after step l same = step ∙ ap (λ s. followed s w before) (delivered_there number w l same)
