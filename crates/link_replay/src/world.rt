@@ -4,8 +4,9 @@ ghost use Rattle.std.specs.Prelude.{◌≡◌, ◌+◌, ◌<◌, ◌^◌, ◌++�
 ghost use Rattle.script_spec.specs.Script.{IsAction, IsHeader};
 ghost use Rattle.link_spec.specs.Link.{Link};
 ghost use Rattle.link_spec.specs.Held.{held_of};
-ghost use Rattle.world_spec.specs.Nodes.{Nodes, first_nodes, acted, step};
-ghost use Rattle.world_spec.specs.Trace.{turn_text};
+ghost use Rattle.world_spec.specs.Nodes.{Nodes, first_nodes, delivered, acted, step};
+ghost use Rattle.world_spec.specs.Trace.{line_text, turn_text};
+ghost use Rattle.world_spec.specs.declared.Effect.TheVariants as effect;
 ghost use Rattle.replay_script.specs.Events.{action_of, header_of};
 ghost use Rattle.link_replay.specs.Seen.{shown, followed, sound, seen_of};
 
@@ -96,7 +97,6 @@ impl Machine {
     }
 
     /// The packet of that number is delivered, where it may come from the link that this is held of.
-    #[tactic(auto, unfolding(world_spec::specs::Nodes::delivered), using(crate::proofs::Flows::delivered_on_link))]
     fn deliver_there(
         &mut self,
         number: u64,
@@ -107,6 +107,26 @@ impl Machine {
             ≡ followed (delivered number (record { ends = self.old.ends; link = l })) self.old out.old.items) }
     {
         self.deliver(number, outbox, out)?;
+        Ok(())
+    }
+}
+
+impl Machine {
+    /// Runs one event: it is counted, and what it asks for is done.
+    fn turn(
+        &mut self,
+        event: &Event,
+        outbox: &mut Outbox,
+        out: &mut Vec<u8>,
+    ) -> Result<(), NoMemory>
+        requires few { self.old.ends.event + 1 < 2 ^ 64 }
+        requires ranges { IsAction (action_of event.now) }
+        ensures nodes { OnOk result ((n : Nodes) → self.old ≡ seen_of n → self.new ≡ seen_of (step (action_of event.now) n).nodes) }
+        ensures lines { OnOk result ((n : Nodes) → self.old ≡ seen_of n
+            → out.new.items ≡ out.old.items ++ turn_text n (step (action_of event.now) n)) }
+    {
+        self.event += 1;
+        self.act(event, outbox, out)?;
         Ok(())
     }
 }
@@ -131,10 +151,18 @@ impl World {
         self.machine.event
     }
 
+    /// Appends the line of the unit's present life: which slots are active and committed, and what they hold.
+    pub fn start_line(&self, out: &mut Lines) -> Result<(), NoMemory>
+        ensures line { OnOk result (out.new ≡ out.old ++ line_text self.now.seen.ends.event
+            (effect.UnitStarted self.now.seen.ends.lives self.now.seen.ends.software)) }
+    {
+        self.machine.start_line(&mut out.text)
+    }
+
     /// Runs one event, and appends its lines. For all nodes that the world stands for before, it stands for those after the event's
     /// step afterwards.
     pub fn step(&mut self, event: &Event, out: &mut Lines) -> Result<(), NoMemory>
-        requires few { self.old.seen.ends.event < 4294967295 }
+        requires few { self.old.seen.ends.event + 1 < 2 ^ 64 }
         requires ranges { IsAction (action_of event.now) }
         ensures nodes { OnOk result ((n : Nodes) → self.old.seen ≡ seen_of n
             → self.new ≡ sound (seen_of (step (action_of event.now) n).nodes)) }
@@ -146,9 +174,12 @@ impl World {
         if self.spent {
             return Err(NoMemory);
         }
-        self.machine.event += 1;
-        let done = self.machine.act(event, &mut self.outbox, &mut out.text);
-        self.spent = done.is_err();
-        done
+        match self.machine.turn(event, &mut self.outbox, &mut out.text) {
+            Ok(()) => Ok(()),
+            Err(error) => {
+                self.spent = true;
+                Err(error)
+            }
+        }
     }
 }
