@@ -38,8 +38,8 @@ unfolding trace
 run_starts s h now lines held before h_is now_is lines_is held_is =
     let now' = now_is ∙ ap (λ k. sound (seen_of (first_nodes k))) h_is in
     let held' = held_is
-        ∙ ap (λ (x : State). lines ++ line_text x.seen.ends.event (effect.UnitStarted x.seen.ends.lives x.seen.ends.software)) now'
-        ∙ ap (λ t. t ++ line_text 0 (effect.UnitStarted 1 (factory_software s.header.factory))) lines_is in
+    ∙ ap (λ (x : State). lines ++ line_text x.seen.ends.event (effect.UnitStarted x.seen.ends.lives x.seen.ends.software)) now'
+    ∙ ap (λ t. t ++ line_text 0 (effect.UnitStarted 1 (factory_software s.header.factory))) lines_is in
     record {
       nodes = first_nodes s.header;
       seen = ap (λ (x : State). x.seen) now';
