@@ -1,31 +1,29 @@
 -- Packets that come to the unit.
-use Rattle.std.proofs.Common.{◌≡◌, ◌≢◌, ℕ, zero, suc, ◌+◌, ◌<◌, ◌≤◌, ◌^◌, Bool, true, false, cond, eqb, List, [], ◌∷◌, ◌++◌, length, Option, Some, None, slice_get, ◌⊎◌, inl, inr, refl, sym, ap, subst, ◌∙◌, arith, nat_eq}
-use Rattle.std.proofs.lemmas.Bool.{eqb-true, eqb-false, eq-eqb, ne_eqb}
+use Rattle.std.proofs.Common.{◌≡◌, ◌≢◌, ℕ, zero, suc, ◌<◌, ◌^◌, Bool, true, false, cond, eqb, List, [], ◌∷◌, ◌++◌, Option, Some, None, slice_get, ◌⊎◌, inl, inr, refl, sym, ap, subst, ◌∙◌, arith, nat_eq}
+use Rattle.std.proofs.lemmas.Bool.{eqb-true, eqb-false}
 use Rattle.std.proofs.lemmas.Bool.Decides.{nat_tests}
 use Rattle.omci_types.specs.declared.Frame.{Frame}
 use Rattle.omci_types.specs.declared.Priority.{Priority}
 use Rattle.omci_types.specs.declared.Priority.TheVariants.{Low, High}
 use Rattle.tci_spec.specs.Tci.{priority_of, tci_of, packet_tci}
 use Rattle.frame_spec.specs.Baseline.{spelling}
-use Rattle.link_spec.specs.declared.Direction.{Direction}
 use Rattle.link_spec.specs.declared.Direction.TheVariants.{Down, Up}
-use Rattle.link_spec.specs.Link.{Sent, Link, Ways, way_in, with_way, passed, way_of, ways_past, delivered_on, lane_of, sent_on}
+use Rattle.link_spec.specs.Link.{Sent, Link, Ways, way_in, with_way, passed, ways_past, delivered_on, lane_of, sent_on}
 use Rattle.retry_spec.specs.Kept.{Reply, Kept, kept_in, keep_in, if_answers, kept_for, kept_with}
 use Rattle.manager_spec.specs.Manager.{Manager}
 use Rattle.unit_spec.specs.declared.Did.{Did}
 use Rattle.unit_spec.specs.declared.Did.TheVariants as did
 use Rattle.unit_spec.specs.Onu.{Onu, Reception, Answer, dropped, carried, unless_kept, asked, onu_received}
-use Rattle.mib_spec.specs.Database.{Database}
 use Rattle.history_spec.specs.History.{CarriedOut}
-use Rattle.moves_spec.specs.Channel.{Transaction, place_number, LinkPacket, RequestOf, ReplyTo, KeptReply, LaneState, Channel, View, lane_view, with_lane_view}
-use Rattle.moves_spec.specs.Moves.{Move, Execution, RequestComes, with_packet, with_floor_down, with_floor_up, with_execution, execute, execute_unless, serve, request_if, may_go_down, with_request, request_at, after_move, after_moves}
+use Rattle.moves_spec.specs.Channel.{Transaction, place_number, RequestOf, ReplyTo, KeptReply, Channel, View, lane_view, with_lane_view}
+use Rattle.moves_spec.specs.Moves.{Execution, RequestComes, with_packet, with_floor_down, with_execution, execute, execute_unless, serve, request_if, may_go_down, request_at, after_move}
 use Rattle.moves_laws.proofs.Numbers.{place_is_number}
-use Rattle.world_spec.specs.Happenings.{Happening, PacketCame, UnitCarried, UnitKept, UnitDropped, PacketSent, link_read}
+use Rattle.world_spec.specs.Happenings.{Happening, PacketCame, link_read}
 use Rattle.world_spec.specs.Ends.{unit_deed}
 use Rattle.world_spec.specs.History.{Told, name_at, tell_all}
 use Rattle.world_laws.proofs.Tcis.{lane_of_tci, same_number, tci_fits, tci_spelled}
-use Rattle.world_laws.proofs.Likeness.{tci_at, IsPacket, ArePackets, AtPlace, one_more, AreWays, IsKept, IsManager, IsUnit, Like, some_unit, Follows}
-use Rattle.world_laws.proofs.Unit.{IsAsked, received}
+use Rattle.world_laws.proofs.Likeness.{tci_at, one_more, IsKept, IsUnit, Like, some_unit, Follows}
+use Rattle.world_laws.proofs.Unit.{IsAsked, reception_is}
 
 -- ---- what came
 
@@ -465,4 +463,4 @@ pub unit_follows : (l : Priority) (tr : Transaction) (i : ℕ) (s : Sent) (link 
     → ReceptionFollows (onu_received s.bytes u) i s u link lives manager t p
 unit_follows l tr i s link lives u manager t p st h =
     reception_follows l tr i s (onu_received s.bytes u) link lives u manager t p st h
-    (received s.bytes u)
+    (reception_is s.bytes u)

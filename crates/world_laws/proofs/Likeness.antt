@@ -1,20 +1,18 @@
 -- The machine of both ends beside the machine of moves: what of one is what of the other.
-use Rattle.std.proofs.Common.{◌≡◌, ◌≢◌, ℕ, zero, suc, ◌+◌, ◌<◌, ◌≤◌, Bool, true, false, List, [], ◌∷◌, ◌++◌, length, Option, Some, None, slice_get, refl, sym, ap, subst, ◌∙◌, arith}
+use Rattle.std.proofs.Common.{◌≡◌, ◌≢◌, ℕ, zero, suc, ◌+◌, ◌≤◌, Bool, List, [], ◌∷◌, ◌++◌, length, Option, Some, None, slice_get, refl, sym, ap, subst}
 use Rattle.std.proofs.lemmas.Option.{same_Some}
 use Rattle.omci_types.specs.declared.Priority.{Priority}
 use Rattle.omci_types.specs.declared.Priority.TheVariants.{Low, High}
 use Rattle.tci_spec.specs.Tci.{tci_of, packet_tci}
-use Rattle.link_spec.specs.declared.Direction.{Direction}
 use Rattle.link_spec.specs.declared.Direction.TheVariants.{Down, Up}
-use Rattle.link_spec.specs.Link.{Sent, Link, Ways, way_in}
-use Rattle.retry_spec.specs.Kept.{Reply, Kept, kept_in}
+use Rattle.link_spec.specs.Link.{Sent, Link, Ways}
+use Rattle.retry_spec.specs.Kept.{Reply, Kept}
 use Rattle.lane_spec.specs.Command.{command_packets}
 use Rattle.lane_spec.specs.Lane.{Lane, Waiting}
 use Rattle.manager_spec.specs.declared.Report.{Report}
 use Rattle.manager_spec.specs.Manager.{Manager, lane_in, with_lane}
 use Rattle.unit_spec.specs.Onu.{Onu}
-use Rattle.history_spec.specs.History.{Entry}
-use Rattle.moves_spec.specs.Channel.{Transaction, place_number, LinkPacket, RequestOf, ReplyTo, Unasked, KeptReply, Outstanding, LaneState, Channel, View, lane_view, with_lane_view}
+use Rattle.moves_spec.specs.Channel.{place_number, LinkPacket, RequestOf, ReplyTo, Unasked, KeptReply, Outstanding, LaneState, Channel, View, lane_view, with_lane_view}
 use Rattle.moves_spec.specs.Moves.{Move, after_move, after_moves}
 use Rattle.world_spec.specs.History.{Told, drawn_in}
 

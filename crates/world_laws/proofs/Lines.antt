@@ -1,7 +1,7 @@
 -- Each line of a script is moves, and so is a script.
-use Rattle.std.proofs.Common.{◌≡◌, ◌≢◌, ℕ, zero, suc, ◌+◌, ◌-◌, ◌<◌, ◌≤◌, Bool, true, false, ◌&&◌, ◌||◌, List, [], ◌∷◌, ◌++◌, length, Option, Some, None, slice_get, ◌⊎◌, inl, inr, refl, sym, ap, subst, ◌∙◌, arith, nat_le, append_assoc}
+use Rattle.std.proofs.Common.{◌≡◌, ◌≢◌, ℕ, zero, suc, ◌+◌, ◌-◌, Bool, true, false, ◌&&◌, List, [], ◌∷◌, ◌++◌, length, Option, Some, None, slice_get, ◌⊎◌, inl, inr, refl, sym, ap, subst, ◌∙◌, nat_le}
 use Rattle.std.proofs.lemmas.Option.{same_Some}
-use Rattle.std.specs.Prelude.{map, is_some}
+use Rattle.std.specs.Prelude.{map}
 use Rattle.omci_types.specs.declared.Frame.{Frame}
 use Rattle.omci_types.specs.declared.Priority.{Priority}
 use Rattle.omci_types.specs.declared.Priority.TheVariants.{Low, High}
@@ -9,31 +9,30 @@ use Rattle.tci_spec.specs.Tci.{IsNumber, priority_of, packet_tci}
 use Rattle.message_spec.specs.declared.Request.TheVariants as request
 use Rattle.frame_spec.specs.Baseline.{fault_of}
 use Rattle.frame_spec.specs.Widths.{filled}
-use Rattle.script_spec.specs.Script.{Header, Action, Probe, Reset, Get, Create, Set, Delete, Deliver, Flow, NoiseUnit, NoiseOlt, Tick, CutUnit, CutOlt, StartUnit, StartOlt}
+use Rattle.script_spec.specs.Script.{Action, Probe, Reset, Get, Create, Set, Delete, Deliver, Flow, NoiseUnit, NoiseOlt, Tick, CutUnit, CutOlt, StartUnit, StartOlt}
 use Rattle.link_spec.specs.declared.Direction.{Direction}
 use Rattle.link_spec.specs.declared.Direction.TheVariants.{Down, Up}
-use Rattle.link_spec.specs.Link.{Sent, Link, Ways, way_in, way_of, lane_of, is_young, may_come, if_may_come, allowed_one, allowed, count, delivered_on, emptied, ways_from}
+use Rattle.link_spec.specs.Link.{Sent, Link, Ways, way_in, way_of, lane_of, is_young, may_come, if_may_come, allowed_one, allowed, count, delivered_on}
 use Rattle.lane_spec.specs.Command.{sync_entity}
 use Rattle.lane_spec.specs.Lane.{Waiting, ended}
 use Rattle.manager_spec.specs.declared.Report.{Report}
 use Rattle.manager_spec.specs.declared.Report.TheVariants as report
-use Rattle.manager_spec.specs.Manager.{Manager, Outcome, lane_in, with_lane, with_report, packet_dropped, reply_report, manager_started, after_packet, after_probe, after_submit}
-use Rattle.unit_spec.specs.declared.Did.TheVariants as did
-use Rattle.unit_spec.specs.Onu.{Onu, dropped, onu_started, onu_received}
-use Rattle.history_spec.specs.History.{TookReply, Once, Answered}
-use Rattle.moves_spec.specs.Channel.{Transaction, place_number, LinkPacket, RequestOf, ReplyTo, Unasked, Channel, View, lane_view, with_lane_view, first_channel}
-use Rattle.moves_spec.specs.Moves.{Move, UnitStarts, ManagerStarts, may_go, may_go_down, may_go_up, after_move, after_moves}
+use Rattle.manager_spec.specs.Manager.{Manager, Outcome, lane_in, with_lane, with_report, packet_dropped, reply_report, manager_started, after_packet}
+use Rattle.unit_spec.specs.Onu.{Onu, onu_started}
+use Rattle.history_spec.specs.History.{TookReply}
+use Rattle.moves_spec.specs.Channel.{Transaction, place_number, LinkPacket, RequestOf, ReplyTo, Unasked, Channel, lane_view}
+use Rattle.moves_spec.specs.Moves.{Move, UnitStarts, ManagerStarts, may_go_down, may_go_up, after_moves}
 use Rattle.moves_laws.proofs.Numbers.{number_at_first, place_is_number}
-use Rattle.world_spec.specs.Happenings.{Happening, PacketCame, Reported, UnitDropped, link_read}
-use Rattle.world_spec.specs.Ends.{Ends, Step, still, not_enabled, preceded, manager_did, manager_got, unit_did, unit_got, arrives_at, arrives, noise, cut_unit, cut_manager, start_unit, start_manager}
-use Rattle.world_spec.specs.Nodes.{Nodes, Turn, first_nodes, delivered_one, delivered, nodes_after_step, goes_on, flow_from, oldest_fresh, flow, acted, counted, turn_of, step}
-use Rattle.world_spec.specs.History.{Told, first_told, drawn_in, tell_all, told_after, history_of}
+use Rattle.world_spec.specs.Happenings.{PacketCame, Reported}
+use Rattle.world_spec.specs.Ends.{Step, preceded, manager_did, manager_got, unit_did, unit_got, arrives_at, arrives, noise, cut_unit, cut_manager, start_unit, start_manager}
+use Rattle.world_spec.specs.Nodes.{Nodes, delivered_one, delivered, nodes_after_step, goes_on, flow_from, oldest_fresh, flow, acted, counted, step}
+use Rattle.world_spec.specs.History.{Told, drawn_in, tell_all}
 use Rattle.world_laws.proofs.Tcis.{lane_of_tci}
-use Rattle.world_laws.proofs.Likeness.{tci_at, IsPacket, ArePackets, same_length, AtPlace, at_place, AreWays, IsOut, IsLane, IsManager, IsUnit, Like, some_manager, some_unit, Follows, like_managed, like_unmanaged, like_reports, after_both}
+use Rattle.world_laws.proofs.Likeness.{tci_at, IsPacket, same_length, at_place, AreWays, Like, some_manager, some_unit, Follows, like_unmanaged, like_reports, after_both}
 use Rattle.world_laws.proofs.Unit.{noise_received}
-use Rattle.world_laws.proofs.Manager.{taken_by, IsTaken, heard, noise_heard}
+use Rattle.world_laws.proofs.Manager.{taken_by, IsTaken, hearing_is, noise_heard}
 use Rattle.world_laws.proofs.Turns.{Rests, StepFollows, no_step, not_enabled_step, link_append, tell_append, probe_follows, submit_follows, second_follows}
-use Rattle.world_laws.proofs.Arrivals.{name_is_at, came_told, Stands, ReceptionFollows, unit_follows}
+use Rattle.world_laws.proofs.Arrivals.{name_is_at, came_told, Stands, unit_follows}
 use Rattle.world_laws.proofs.Taking.{Returns, dropped_up, told_taken, taken_up}
 
 -- ---- what may come
@@ -162,7 +161,7 @@ manager_arrives : (l : Priority) (tr : Transaction) (i : ℕ) (s : Sent) (o : Op
     → Returns l tr i s p → StepFollows (manager_got (PacketCame i s ∷ []) s.bytes o n.ends) n t p
 manager_arrives l tr i s None n t p h e a = not_enabled_step n t p h
 manager_arrives l tr i s (Some m) n t p h e a = outcome_arrives l tr i s (after_packet s.bytes m) m
-    n t p h e a (heard s.bytes m)
+    n t p h e a (hearing_is s.bytes m)
 
 -- ---- deliveries
 

@@ -1,11 +1,11 @@
 -- What the manager may make of a packet, by the TCI that stands in it.
-use Rattle.std.proofs.Common.{◌≡◌, ◌≢◌, ℕ, ◌+◌, Bool, true, false, cond, eqb, ◌&&◌, ◌||◌, List, Option, Some, None, ◌⊎◌, inl, inr, refl, sym, ap, subst, ◌∙◌, arith}
+use Rattle.std.proofs.Common.{◌≡◌, ◌≢◌, ℕ, Bool, true, false, eqb, ◌||◌, List, Option, Some, None, ◌⊎◌, inl, inr, refl, ap, subst, ◌∙◌}
 use Rattle.std.proofs.lemmas.Bool.{eqb-true, and_parts}
 use Rattle.omci_types.specs.declared.Frame.{Frame}
 use Rattle.omci_types.specs.declared.Priority.{Priority}
 use Rattle.tci_spec.specs.Tci.{priority_of, packet_tci}
 use Rattle.frame_spec.specs.Baseline.{fault_of, packet_frame}
-use Rattle.lane_spec.specs.Command.{Command, command_frame, is_response, answers}
+use Rattle.lane_spec.specs.Command.{command_frame, is_response, answers}
 use Rattle.lane_spec.specs.Lane.{Lane, Waiting, Replied, ended, reply_by, reply_to, lane_reply, is_probing}
 use Rattle.manager_spec.specs.Manager.{Manager, Outcome, lane_in, with_lane, with_report, sends_nothing, packet_dropped, reply_report, take_if, frame_came, for_frame, after_packet}
 use Rattle.world_laws.proofs.Reading.{tci_read, noise_read}
@@ -90,11 +90,11 @@ for_frame_is (Some f) bytes m e =
     (tci_read bytes f e) (frame_came_is f m)
 
 -- a packet is dropped, or ends the wait of a lane
-pub heard : (bytes : List ℕ) (m : Manager)
+pub hearing_is : (bytes : List ℕ) (m : Manager)
     → (after_packet bytes m ≡ packet_dropped m)
     ⊎ IsTaken (packet_tci bytes) m (after_packet bytes m)
 unfolding after_packet
-heard bytes m = for_frame_is (packet_frame bytes) bytes m refl
+hearing_is bytes m = for_frame_is (packet_frame bytes) bytes m refl
 
 -- noise is dropped
 pub noise_heard : (bytes : List ℕ) (m : Manager) → fault_of bytes ≢ None → after_packet bytes m

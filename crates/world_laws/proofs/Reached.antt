@@ -1,29 +1,29 @@
 -- What is known of the packets that may come next, from the channel of the moves that made up for a
 -- script.
-use Rattle.std.proofs.Common.{◌≡◌, ◌≢◌, ℕ, ◌-◌, ◌≤◌, Bool, true, false, List, Option, Some, None, slice_get, ◌⊎◌, inl, inr, refl, sym, ap, subst, ◌∙◌, arith}
+use Rattle.std.proofs.Common.{◌≡◌, ◌≢◌, ℕ, ◌-◌, ◌≤◌, Bool, true, false, Option, Some, None, slice_get, ◌⊎◌, inl, inr, refl, sym, ap, subst, ◌∙◌}
 use Rattle.std.proofs.lemmas.Option.{same_Some}
 use Rattle.omci_types.specs.declared.Priority.{Priority}
 use Rattle.tci_spec.specs.Tci.{priority_of, tci_of, packet_tci}
 use Rattle.link_spec.specs.declared.Direction.TheVariants.{Down, Up}
 use Rattle.link_spec.specs.Link.{Sent, Link, Ways, way_of, lane_of, may_come, if_may_come, allowed_one, allowed, count}
-use Rattle.retry_spec.specs.Kept.{Reply, Kept, kept_in}
+use Rattle.retry_spec.specs.Kept.{Reply, kept_in}
 use Rattle.lane_spec.specs.Lane.{Lane, Waiting}
 use Rattle.manager_spec.specs.Manager.{Manager, lane_in}
 use Rattle.unit_spec.specs.declared.Did.TheVariants as did
-use Rattle.unit_spec.specs.Onu.{Onu, Reception, dropped, unless_kept, asked}
+use Rattle.unit_spec.specs.Onu.{Onu, Reception, dropped, unless_kept}
 use Rattle.history_spec.specs.History.{WasCarried, LastReply}
-use Rattle.moves_spec.specs.Channel.{Transaction, place_number, LinkPacket, RequestOf, ReplyTo, Unasked, KeptReply, Outstanding, LaneState, Channel, lane_view, first_channel}
+use Rattle.moves_spec.specs.Channel.{Transaction, LinkPacket, RequestOf, ReplyTo, Unasked, KeptReply, Outstanding, LaneState, Channel, lane_view, first_channel}
 use Rattle.moves_spec.specs.Moves.{after_moves}
 use Rattle.moves_laws.specs.Facts as moves
 use Rattle.moves_laws.proofs.Parts.{SoundChannel}
 use Rattle.moves_laws.proofs.Runs.{channel_after}
 use Rattle.moves_laws.proofs.Reached.{carried_fresh, carried_awaited, taken_is_own, taken_is_kept, taken_was_carried, taken_is_last, reply_before_request}
 use Rattle.world_spec.specs.Nodes.{Nodes, first_nodes, nodes_after}
-use Rattle.world_spec.specs.History.{Told, first_told, drawn_in, name_at, told_after}
+use Rattle.world_spec.specs.History.{Told, first_told, drawn_in, name_at}
 use Rattle.world_laws.specs.Facts.{AreReached, MayCome, MayBeCarriedOut, MayBeTaken, IsAwaited, KeepsTci}
 use Rattle.world_laws.proofs.Tcis.{same_number}
-use Rattle.world_laws.proofs.Likeness.{tci_at, IsPacket, at_place, same_length, Awaits, IsOut, IsLaneOf, IsKept, lane_like, Waits, busy}
-use Rattle.world_laws.proofs.Unit.{IsAsked, received}
+use Rattle.world_laws.proofs.Likeness.{tci_at, IsPacket, at_place, same_length, Awaits, IsOut, IsLaneOf, IsKept, lane_like, busy}
+use Rattle.world_laws.proofs.Unit.{IsAsked, reception_is}
 use Rattle.world_laws.proofs.Turns.{Rests}
 use Rattle.world_laws.proofs.Arrivals.{name_is_at, lane_is, KeepsIt, KeepsOther, keeps, kept_for_is, asked_is, kept_like, has_other}
 use Rattle.world_laws.proofs.Lines.{may_down, may_up}
@@ -35,8 +35,8 @@ pub record Linked (n : Nodes) (t : Told) : Type 0 where
   pub sound : SoundChannel channel
   pub rests : Rests n t channel
 
-pub linked : (n : Nodes) (t : Told) → AreReached n t → Linked n t
-linked n t r =
+pub channel_for : (n : Nodes) (t : Told) → AreReached n t → Linked n t
+channel_for n t r =
     let run = script_follows r.actions (first_nodes r.header) first_told _
     (first_rests r.header r.low r.high) (all_fair r.actions r.allowed) in
     record {
@@ -166,7 +166,7 @@ carried_down l i s u n t p h m g = record {
   comes = g.may;
   differs = λ k e same. has_other l (packet_tci s.bytes) (kept_in l u.kept) k
       (subst (IsKept l (kept_in l u.kept)) e (kept_like l u.kept p (h.like.unit_is u m.on)))
-      (carried_differs l (packet_tci s.bytes) _ u m.comes.in_lane m.does (received s.bytes u))
+      (carried_differs l (packet_tci s.bytes) _ u m.comes.in_lane m.does (reception_is s.bytes u))
       (ap (tci_of l) same ∙ sym g.tci);
 }
 
@@ -188,10 +188,10 @@ record Waited (l : Priority) (last : ℕ) (m : Lane) (s : LaneState) (o : Outsta
   is : m.outstanding ≡ Some waiting
   awaits : Awaits l last m.next waiting s.place o
 
-waited : (l : Priority) (last : ℕ) (m : Lane) (s : LaneState) (o : Outstanding)
+waiting_for : (l : Priority) (last : ℕ) (m : Lane) (s : LaneState) (o : Outstanding)
     → IsLaneOf l last m s → s.outstanding ≡ Some o
     → Waited l last m s o
-waited l last m s o h e =
+waiting_for l last m s o h e =
     go m.outstanding refl (subst (λ x. IsOut l last m.next m.outstanding s.place x) e h.out)
   where
     go : (w : Option Waiting) → m.outstanding ≡ w → IsOut l last m.next w s.place (Some o)
@@ -207,7 +207,7 @@ is_awaited l n t i s u m k on proved may =
     let lane = lane_like l t m k.channel (k.rests.like.manager_is m on) in
     let a = carried_awaited l k.channel i g.transaction k.sound (sym lane.proved_is ∙ proved)
     (carried_down l i s u n t k.channel k.rests may g) in
-    let w = waited l (drawn_in l t) (lane_in l m) (lane_view l k.channel).lane a.outstanding lane
+    let w = waiting_for l (drawn_in l t) (lane_in l m) (lane_view l k.channel).lane a.outstanding lane
     a.waits in
     record {
       waiting = w.waiting;

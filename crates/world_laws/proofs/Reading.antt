@@ -1,5 +1,5 @@
 -- What an end reads of a packet: its TCI. No law of frames or messages is needed.
-use Rattle.std.proofs.Common.{◌≡◌, ℕ, ◌<◌, ◌≤◌, Bool, true, false, cond, List, Option, Some, None, ◌≢◌, refl, ap, sym, ◌∙◌}
+use Rattle.std.proofs.Common.{◌≡◌, ℕ, Bool, true, false, cond, List, Option, Some, None, ◌≢◌, refl, ap, ◌∙◌}
 use Rattle.omci_types.specs.declared.Frame.{Frame}
 use Rattle.tci_spec.specs.Tci.{packet_tci}
 use Rattle.frame_spec.specs.declared.FrameFault.{FrameFault}

@@ -1,12 +1,11 @@
 -- The history of a script is that of some list of moves, so it keeps both laws.
-use Rattle.std.proofs.Common.{◌≡◌, ℕ, ◌-◌, ◌≤◌, List, [], ◌∷◌, ◌++◌, Option, Some, None, refl, sym, ap, subst, arith}
+use Rattle.std.proofs.Common.{◌-◌, List, [], ◌∷◌, ◌++◌, None, refl, sym, ap, subst}
 use Rattle.std.proofs.lemmas.Option.{same_Some}
 use Rattle.std.proofs.lemmas.List.Elements.{All-head, All-tail}
 use Rattle.std.specs.List.{All}
-use Rattle.omci_types.specs.declared.Priority.TheVariants.{Low, High}
 use Rattle.tci_spec.specs.Tci.{IsNumber}
 use Rattle.script_spec.specs.Script.{Header, Action, Probe, Reset, Get, Create, Set, Delete, Deliver, Flow, NoiseUnit, NoiseOlt, Tick, CutUnit, CutOlt, StartUnit, StartOlt, IsAction}
-use Rattle.manager_spec.specs.Manager.{Manager, manager_started}
+use Rattle.manager_spec.specs.Manager.{manager_started}
 use Rattle.unit_spec.specs.Onu.{onu_started}
 use Rattle.history_spec.specs.History.{Once, Answered}
 use Rattle.moves_spec.specs.Channel.{Channel, first_channel}
@@ -16,7 +15,7 @@ use Rattle.moves_laws.proofs.Runs.{runs_once, runs_answered}
 use Rattle.world_spec.specs.Ends.{factory_software}
 use Rattle.world_spec.specs.Nodes.{Nodes, first_nodes, step, nodes_after}
 use Rattle.world_spec.specs.History.{Told, first_told, tell_all, told_after, history_of}
-use Rattle.world_laws.proofs.Likeness.{Like, some_manager, some_unit, after_both}
+use Rattle.world_laws.proofs.Likeness.{some_manager, some_unit, after_both}
 use Rattle.world_laws.proofs.Turns.{Rests}
 use Rattle.world_laws.proofs.Lines.{IsFair, turn_follows}
 

@@ -11,7 +11,7 @@ use Rattle.world_spec.specs.declared.Effect.TheVariants as effect
 use Rattle.world_spec.specs.Happenings.{Happening, UnitStarted, ManagerStarted, PacketCame, PacketSent, UnitCarried, UnitKept, UnitDropped, CommandDrawn, Reported, Refused, NotEnabled, packets_in}
 use Rattle.world_spec.specs.Ends.{factory_software}
 use Rattle.world_spec.specs.Nodes.{Nodes, step, first_nodes}
-use Rattle.world_spec.specs.Trace.{effects_of, line_text, lines_of, lines_text, turn_text, trace_from, trace}
+use Rattle.world_spec.specs.Trace.{effects_of, line_text, lines_of, lines_text, trace_from, trace}
 use Rattle.world_spec.specs.History.{Told, first_told, tell, tell_all, told_after, history_of}
 use Rattle.world_laws.specs.Seen.{Seen, seen_at, seen_in, seen_from, all_seen, line_of, Deed, deeds, deeds_seen}
 

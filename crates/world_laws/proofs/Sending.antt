@@ -1,26 +1,24 @@
 -- The manager draws a command and sends it, and sends it again.
-use Rattle.std.proofs.Common.{◌≡◌, ◌≢◌, ℕ, zero, suc, ◌+◌, ◌<◌, ◌≤◌, ◌^◌, Bool, true, false, List, [], ◌∷◌, ◌++◌, length, Option, Some, None, slice_get, refl, sym, ap, subst, ◌∙◌, arith, length-append}
+use Rattle.std.proofs.Common.{◌≡◌, ◌≢◌, ℕ, ◌+◌, ◌<◌, ◌^◌, Bool, true, false, List, [], ◌∷◌, ◌++◌, length, Option, Some, None, refl, sym, ap, subst, ◌∙◌, arith, length-append}
 use Rattle.std.specs.Prelude.{map}
-use Rattle.std.specs.List.{All}
 use Rattle.omci_types.specs.declared.Priority.{Priority}
 use Rattle.omci_types.specs.declared.Priority.TheVariants.{Low, High}
-use Rattle.tci_spec.specs.Tci.{IsNumber, number_after, tci_of, packet_tci}
+use Rattle.tci_spec.specs.Tci.{number_after, tci_of, packet_tci}
 use Rattle.message_spec.specs.Reading.{plain}
-use Rattle.frame_spec.specs.Baseline.{spelling}
-use Rattle.link_spec.specs.declared.Direction.TheVariants.{Down, Up}
-use Rattle.link_spec.specs.Link.{Sent, Link, sent_on}
+use Rattle.link_spec.specs.declared.Direction.TheVariants.{Down}
+use Rattle.link_spec.specs.Link.{Link, sent_on}
 use Rattle.lane_spec.specs.Command.{Command, command_frame, command_packets}
-use Rattle.lane_spec.specs.Lane.{Lane, Waiting, next_tci, with_command}
-use Rattle.manager_spec.specs.Manager.{Manager, Sending, lane_in, with_lane}
+use Rattle.lane_spec.specs.Lane.{Lane, next_tci, with_command}
+use Rattle.manager_spec.specs.Manager.{Manager, lane_in, with_lane}
 use Rattle.unit_spec.specs.Onu.{Onu}
-use Rattle.moves_spec.specs.Channel.{Transaction, place_number, LinkPacket, RequestOf, Outstanding, LaneState, Channel, View, lane_view, with_lane_view}
-use Rattle.moves_spec.specs.Moves.{Move, Draw, Send, drawn_transaction, outstanding_of, with_draw, draw_if, with_packet, with_requests, with_sent, send_if, after_move, after_moves}
+use Rattle.moves_spec.specs.Channel.{Transaction, place_number, RequestOf, Outstanding, LaneState, Channel, View, lane_view, with_lane_view}
+use Rattle.moves_spec.specs.Moves.{Draw, Send, drawn_transaction, outstanding_of, with_draw, draw_if, with_packet, with_requests, with_sent, send_if, after_move}
 use Rattle.moves_laws.proofs.Numbers.{number_next, place_is_number}
-use Rattle.world_spec.specs.Happenings.{Happening, PacketSent, OfLane, CommandDrawn, link_read}
-use Rattle.world_spec.specs.Ends.{goes_down, sends}
+use Rattle.world_spec.specs.Happenings.{Happening, CommandDrawn, link_read}
+use Rattle.world_spec.specs.Ends.{goes_down}
 use Rattle.world_spec.specs.History.{Told, drawn_in, draws_in, tell_all}
 use Rattle.world_laws.proofs.Tcis.{tci_fits, tci_spelled}
-use Rattle.world_laws.proofs.Likeness.{tci_at, IsPacket, ArePackets, one_more, AreWays, Awaits, IsOut, IsLane, IsLaneOf, IsManager, IsUnit, Like, some_manager, lane_like, idle, Waits, busy, Follows, same_view, like_unmanaged, like_managed, one_lane}
+use Rattle.world_laws.proofs.Likeness.{tci_at, one_more, IsLane, IsLaneOf, IsManager, Like, lane_like, idle, Follows, like_unmanaged, like_managed, one_lane}
 
 -- ---- the packets of a command
 

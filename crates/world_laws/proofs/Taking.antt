@@ -1,28 +1,20 @@
 -- Packets that come to the manager.
-use Rattle.std.proofs.Common.{◌≡◌, ◌≢◌, ℕ, zero, suc, ◌+◌, ◌<◌, ◌≤◌, Bool, true, false, ◌||◌, List, [], ◌∷◌, ◌++◌, length, Option, Some, None, slice_get, ◌⊎◌, inl, inr, refl, sym, ap, subst, ◌∙◌, arith, nat_eq}
+use Rattle.std.proofs.Common.{◌≡◌, ℕ, Bool, true, false, ◌||◌, List, [], ◌∷◌, Option, Some, None, slice_get, ◌⊎◌, inl, inr, refl, sym, ap, subst, ◌∙◌, arith, nat_eq}
 use Rattle.std.proofs.lemmas.Bool.Decides.{nat_tests}
-use Rattle.std.specs.Prelude.{map}
-use Rattle.omci_types.specs.declared.Frame.{Frame}
 use Rattle.omci_types.specs.declared.Priority.{Priority}
 use Rattle.omci_types.specs.declared.Priority.TheVariants.{Low, High}
-use Rattle.tci_spec.specs.Tci.{priority_of, packet_tci}
-use Rattle.link_spec.specs.declared.Direction.TheVariants.{Down, Up}
+use Rattle.tci_spec.specs.Tci.{packet_tci}
+use Rattle.link_spec.specs.declared.Direction.TheVariants.{Up}
 use Rattle.link_spec.specs.Link.{Sent, Link, way_in, with_way, passed, delivered_on}
 use Rattle.lane_spec.specs.Lane.{Lane, Waiting, ended}
-use Rattle.manager_spec.specs.declared.Report.{Report}
-use Rattle.manager_spec.specs.declared.Report.TheVariants as report
-use Rattle.manager_spec.specs.Manager.{Manager, Outcome, lane_in, with_lane, packet_dropped, reply_report, after_packet}
+use Rattle.manager_spec.specs.Manager.{Manager, lane_in, with_lane}
 use Rattle.unit_spec.specs.Onu.{Onu}
 use Rattle.history_spec.specs.History.{TookReply}
 use Rattle.moves_spec.specs.Channel.{Transaction, place_number, ReplyTo, Outstanding, Channel, View, lane_view, with_lane_view}
-use Rattle.moves_spec.specs.Moves.{Move, ReplyComes, with_floor_up, with_end, with_written, take_reply, take_if_same, take_if_waiting, reply_if, may_go_up, reply_at, after_move, after_moves}
-use Rattle.moves_laws.proofs.Numbers.{place_is_number}
-use Rattle.world_spec.specs.Happenings.{Happening, PacketCame, Reported, link_read}
-use Rattle.world_spec.specs.Ends.{manager_did}
-use Rattle.world_spec.specs.History.{Told, drawn_in, tell_all}
-use Rattle.world_laws.proofs.Tcis.{lane_of_tci, same_number}
-use Rattle.world_laws.proofs.Likeness.{tci_at, AreWays, Awaits, IsManager, Like, lane_like, Waits, busy, Follows, like_reports}
-use Rattle.world_laws.proofs.Manager.{taken_by, IsTaken, heard}
+use Rattle.moves_spec.specs.Moves.{ReplyComes, with_floor_up, with_end, with_written, take_reply, take_if_same, take_if_waiting, reply_if, may_go_up, reply_at, after_move}
+use Rattle.world_spec.specs.History.{Told, drawn_in}
+use Rattle.world_laws.proofs.Tcis.{same_number}
+use Rattle.world_laws.proofs.Likeness.{tci_at, Like, lane_like, Waits, busy, Follows}
 use Rattle.world_laws.proofs.Ticks.{ended_like}
 use Rattle.world_laws.proofs.Arrivals.{came_told, ways_up, lane_is}
 

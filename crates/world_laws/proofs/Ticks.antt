@@ -1,5 +1,5 @@
 -- A second passes in the manager's lanes.
-use Rattle.std.proofs.Common.{◌≡◌, ◌≢◌, ℕ, zero, suc, ◌+◌, ◌<◌, ◌≤◌, Bool, true, false, not, List, [], ◌∷◌, ◌++◌, length, Option, Some, None, refl, sym, ap, subst, ◌∙◌, arith, nat_le, nat_lt, append_assoc}
+use Rattle.std.proofs.Common.{◌≡◌, ℕ, ◌+◌, ◌≤◌, Bool, true, false, List, [], ◌∷◌, ◌++◌, length, Option, Some, None, refl, sym, ap, subst, ◌∙◌, arith, nat_le, nat_lt}
 use Rattle.std.proofs.lemmas.Bool.Decides.{nat_tests}
 use Rattle.std.specs.Prelude.{map}
 use Rattle.std.specs.List.{flat_map}
@@ -7,19 +7,16 @@ use Rattle.omci_types.specs.declared.Priority.{Priority}
 use Rattle.omci_types.specs.declared.Priority.TheVariants.{Low, High}
 use Rattle.link_spec.specs.Link.{Link}
 use Rattle.lane_spec.specs.declared.TheConstants.{MOST_REPEATS}
-use Rattle.lane_spec.specs.declared.LaneTick.TheVariants.{Quiet, Repeat, GaveUp}
 use Rattle.lane_spec.specs.Command.{command_packets}
-use Rattle.lane_spec.specs.Lane.{Lane, Waiting, Ticked, counts_on, repeats_it, gives_up, tick_by, tick_waiting, timeout_of, lane_tick}
-use Rattle.manager_spec.specs.declared.Report.{Report}
-use Rattle.manager_spec.specs.declared.Report.TheVariants as report
-use Rattle.manager_spec.specs.Manager.{Manager, Sending, Outcome, and_then, lane_in, with_lane, with_report, lane_ticked, tick_lane, after_tick}
+use Rattle.lane_spec.specs.Lane.{Lane, Waiting, tick_by, tick_waiting, lane_tick}
+use Rattle.manager_spec.specs.Manager.{Manager, Outcome, lane_in, with_lane, lane_ticked, tick_lane}
 use Rattle.unit_spec.specs.Onu.{Onu}
-use Rattle.moves_spec.specs.Channel.{Transaction, place_number, Outstanding, LaneState, Channel, View, lane_view, with_lane_view}
-use Rattle.moves_spec.specs.Moves.{Move, Send, GiveUp, with_requests, with_sent, send_if, with_end, end_if, give_up_if, after_move, after_moves}
-use Rattle.world_spec.specs.Happenings.{Happening, Reported, link_read}
+use Rattle.moves_spec.specs.Channel.{Outstanding, Channel, View, lane_view, with_lane_view}
+use Rattle.moves_spec.specs.Moves.{Send, GiveUp, send_if, with_end, end_if, give_up_if, after_move}
+use Rattle.world_spec.specs.Happenings.{Happening, link_read}
 use Rattle.world_spec.specs.Ends.{goes_down, sends}
 use Rattle.world_spec.specs.History.{Told, drawn_in, tell_all}
-use Rattle.world_laws.proofs.Likeness.{tci_at, AreWays, Awaits, IsOut, IsLane, IsLaneOf, IsManager, Like, lane_like, Waits, busy, Follows, same_view, same_manager, like_unmanaged, like_managed, like_one_lane, one_lane, like_reports, after_both}
+use Rattle.world_laws.proofs.Likeness.{tci_at, Awaits, IsOut, IsLaneOf, IsManager, Like, lane_like, Waits, busy, Follows, same_view, same_manager, like_unmanaged, like_managed, like_one_lane, one_lane, like_reports}
 use Rattle.world_laws.proofs.Sending.{HaveTci, packets_tci, lasts_stay, sent_view, sent_like, sent_lane}
 
 -- ---- the outstanding command is sent again

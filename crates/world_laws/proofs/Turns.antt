@@ -1,5 +1,5 @@
 -- Steps of the two ends between their rests: submissions and seconds.
-use Rattle.std.proofs.Common.{◌≡◌, ◌≢◌, ℕ, zero, suc, ◌+◌, ◌<◌, ◌≤◌, Bool, true, false, cond, List, [], ◌∷◌, ◌++◌, length, Option, Some, None, refl, sym, ap, subst, ◌∙◌, arith, append_assoc}
+use Rattle.std.proofs.Common.{◌≡◌, ℕ, Bool, true, false, cond, List, [], ◌∷◌, ◌++◌, Option, Some, None, refl, sym, ap, subst, ◌∙◌, append_assoc}
 use Rattle.std.proofs.lemmas.Option.{same_Some}
 use Rattle.std.specs.Prelude.{map}
 use Rattle.std.specs.List.{flat_map}
@@ -8,23 +8,23 @@ use Rattle.omci_types.specs.declared.Priority.{Priority}
 use Rattle.omci_types.specs.declared.Priority.TheVariants.{Low, High}
 use Rattle.message_spec.specs.declared.Request.{Request}
 use Rattle.link_spec.specs.Link.{Link}
-use Rattle.lane_spec.specs.Command.{Command, probe_command, ask, command_packets}
-use Rattle.lane_spec.specs.Lane.{Lane, Waiting, next_tci, with_command, lane_tick}
+use Rattle.lane_spec.specs.Command.{Command, probe_command, ask}
+use Rattle.lane_spec.specs.Lane.{Lane, Waiting, lane_tick}
 use Rattle.lane_spec.specs.declared.LaneTick.{LaneTick}
 use Rattle.lane_spec.specs.declared.LaneTick.TheVariants.{Quiet, Repeat, GaveUp}
 use Rattle.manager_spec.specs.declared.Refusal.{Refusal}
 use Rattle.manager_spec.specs.declared.Refusal.TheVariants.{Unproven, Occupied}
 use Rattle.manager_spec.specs.declared.Report.{Report}
 use Rattle.manager_spec.specs.declared.Report.TheVariants as report
-use Rattle.manager_spec.specs.Manager.{Manager, Sending, Outcome, and_then, lane_in, with_lane, unproven, occupied_by, occupied, second_change, first_refusal, unless_refused, command_sent, after_probe, submit_refusal, after_submit, lane_ticked, tick_lane, after_tick}
+use Rattle.manager_spec.specs.Manager.{Manager, Sending, Outcome, and_then, lane_in, with_lane, occupied_by, second_change, first_refusal, unless_refused, command_sent, after_probe, after_submit, lane_ticked, tick_lane, after_tick}
 use Rattle.unit_spec.specs.Onu.{Onu}
 use Rattle.moves_spec.specs.Channel.{Channel}
 use Rattle.moves_spec.specs.Moves.{Move, after_moves}
-use Rattle.world_spec.specs.Happenings.{Happening, Reported, Refused, NotEnabled, CommandDrawn, link_read, on_link}
-use Rattle.world_spec.specs.Ends.{Ends, Step, still, not_enabled, sends, goes_down, manager_did, submitted, submission, manager_ticks, second}
+use Rattle.world_spec.specs.Happenings.{Happening, Reported, Refused, CommandDrawn, link_read, on_link}
+use Rattle.world_spec.specs.Ends.{Step, still, not_enabled, sends, manager_did, submitted, submission, manager_ticks, second}
 use Rattle.world_spec.specs.Nodes.{Nodes, nodes_after_step}
 use Rattle.world_spec.specs.History.{Told, tell, tell_all}
-use Rattle.world_laws.proofs.Likeness.{Like, Follows, like_managed, like_unmanaged, like_reports, after_both}
+use Rattle.world_laws.proofs.Likeness.{Like, like_reports, after_both}
 use Rattle.world_laws.proofs.Sending.{draw_follows}
 use Rattle.world_laws.proofs.Ticks.{append_nothing, OutcomeFollows, tick_lane_follows}
 
@@ -144,11 +144,11 @@ probe_by : (o : Option Waiting) (l : Priority) (m : Manager) (n : Nodes) (t : To
 probe_by None l m n t p h e f = command_follows l probe_command m n t p h e f (λ q. refl)
 probe_by (Some w) l m n t p h e f = refused_follows (Occupied w.tci) n t p h
 
-probed : (l : Priority) (m : Manager) (n : Nodes) (t : Told) (p : Channel) → Rests n t p
+probe_goes : (l : Priority) (m : Manager) (n : Nodes) (t : Told) (p : Channel) → Rests n t p
     → n.ends.manager ≡ Some m
     → StepFollows (submitted (after_probe l m) n.ends) n t p
 unfolding after_probe
-probed l m n t p h e = probe_by _ l m n t p h e refl
+probe_goes l m n t p h e = probe_by _ l m n t p h e refl
 
 submit_by : (proved : Bool) (o : Option Waiting) (change : Option Refusal) (l : Priority)
     (c : Command) (m : Manager) (n : Nodes) (t : Told) (p : Channel) → Rests n t p
@@ -174,7 +174,7 @@ pub probe_follows : (l : Priority) (o : Option Manager) (n : Nodes) (t : Told) (
     → Rests n t p → n.ends.manager ≡ o
     → StepFollows (submission (after_probe l) o n.ends) n t p
 probe_follows l None n t p h e = not_enabled_step n t p h
-probe_follows l (Some m) n t p h e = probed l m n t p h e
+probe_follows l (Some m) n t p h e = probe_goes l m n t p h e
 
 pub submit_follows : (l : Priority) (entity : EntityId) (r : Request) (o : Option Manager)
     (n : Nodes) (t : Told) (p : Channel) → Rests n t p → n.ends.manager ≡ o

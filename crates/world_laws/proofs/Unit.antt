@@ -1,5 +1,5 @@
 -- What the unit may make of a packet, by the TCI that stands in it alone.
-use Rattle.std.proofs.Common.{◌≡◌, ◌≢◌, ℕ, Bool, true, false, cond, List, Option, Some, None, Result, Ok, Err, ◌⊎◌, inl, inr, refl, ap, ◌∙◌}
+use Rattle.std.proofs.Common.{◌≡◌, ◌≢◌, ℕ, Bool, true, false, List, Option, Some, None, Result, Ok, Err, ◌⊎◌, inl, inr, refl, ap, ◌∙◌}
 use Rattle.omci_types.specs.declared.Frame.{Frame}
 use Rattle.message_spec.specs.declared.Message.{Message}
 use Rattle.message_spec.specs.declared.Message.TheVariants.{Asked, Answered, Told}
@@ -100,10 +100,10 @@ for_frame_is (Some f) bytes u e = for_message_is (message_of f) f u (packet_tci 
     (tci_read bytes f e)
 
 -- a packet is dropped, or is a request with its TCI
-pub received : (bytes : List ℕ) (u : Onu)
+pub reception_is : (bytes : List ℕ) (u : Onu)
     → (onu_received bytes u ≡ dropped u) ⊎ IsAsked (packet_tci bytes) u (onu_received bytes u)
 unfolding onu_received
-received bytes u = for_frame_is (packet_frame bytes) bytes u refl
+reception_is bytes u = for_frame_is (packet_frame bytes) bytes u refl
 
 -- noise is dropped
 pub noise_received : (bytes : List ℕ) (u : Onu) → fault_of bytes ≢ None → onu_received bytes u
