@@ -123,15 +123,15 @@ header_shows room bytes s stands =
       second = shows_slot_in (number_at 8 bytes) 1 bytes s.second small long stands_read.second;
     }
 
-number-front : (place : ℕ) (bytes : List ℕ) → place + 4 ≤ 4096 → number_at place (take 4096 bytes) ≡ number_at place bytes
+pub number-front : (place : ℕ) (bytes : List ℕ) → place + 4 ≤ 4096 → number_at place (take 4096 bytes) ≡ number_at place bytes
 unfolding number_at
 number-front place bytes fits = ap (λ (l : List ℕ). from_be_bytes w32 l) (field-front 4096 place 4 bytes fits)
 
-entry_fits : (slot : ℕ) → entry_place slot + 22 ≤ 4096
+pub entry_fits : (slot : ℕ) → entry_place slot + 22 ≤ 4096
 entry_fits zero = omega arith
 entry_fits (suc _) = omega arith
 
-gate_fits : (slot : ℕ) → gate_place slot < 4096
+pub gate_fits : (slot : ℕ) → gate_place slot < 4096
 gate_fits zero = omega arith
 gate_fits (suc _) = omega arith
 

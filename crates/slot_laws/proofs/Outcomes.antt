@@ -162,30 +162,32 @@ module _ (header : DiskHeader) (slot : ℕ) (s : SlotPair) (r : Rigged) (below :
   pub put_stands : RigHolds (StandsAt header.room) s r
   put_stands = record { reads = shows.reads.stands; cuts = λ pick. (shows.cuts pick).stands }
 
+-- a piece that lies in its slot lies in the disk
+pub piece_inside : (header : DiskHeader) (slot : ℕ) → slot < 2 → (have : ℕ) (piece : List ℕ) → have + length piece ≤ header.room → (size : ℕ) → 4096 + 2 * header.room ≤ size → (image_place header.room slot + have) + length piece ≤ size
+piece_inside header zero below have piece fits size long = omega (arith, long, fits)
+piece_inside header (suc zero) below have piece fits size long = omega (arith, long, fits)
+piece_inside header (suc (suc _)) below have piece fits size long = absurd (omega arith)
+
+pub entry_inside_disk : (slot size : ℕ) → 4096 ≤ size → entry_place slot + 22 ≤ size
+entry_inside_disk zero size long = omega arith
+entry_inside_disk (suc _) size long = omega arith
+
 -- a put: none of its writes decides anything
 module _ (header : DiskHeader) (slot : ℕ) (s : SlotPair) (r : Rigged) (below : slot < 2) (shut : (slot_header slot header).opened ≡ false) (other : slot ≢ header.committed) (shows : RigHolds (λ bytes t. Shows header t bytes) s r)
     (have : ℕ) (piece : List ℕ) (fits : have + length piece ≤ header.room) where
-  piece_inside : (size : ℕ) → 4096 + 2 * header.room ≤ size → (image_place header.room slot + have) + length piece ≤ size
-  piece_inside size long = by slot below
-    where
-      by : (k : ℕ) → k < 2 → (image_place header.room k + have) + length piece ≤ size
-      by zero low = omega (arith, long, fits)
-      by (suc zero) low = omega (arith, long, fits)
-      by (suc (suc _)) low = absurd (omega arith)
-
   piece_behind : (old torn : List ℕ) → 4096 + 2 * header.room ≤ length old → Torn (image_place header.room slot + have) (length piece) old torn → Behind header.room slot old torn
   piece_behind old torn long is = content_behind header.room slot (image_place header.room slot + have) (length piece) old torn below long (omega arith) (omega (arith, fits)) is
 
   pub put_left : LeftAs (StandsAt header.room) (reach 0 r.trap) Keep s (after_calls (Write (image_place header.room slot + have) piece ∷ []) r)
   put_left = one_left (StandsAt header.room) s (reach 0 r.trap) (image_place header.room slot + have) piece r
-      (put_stands header slot s r below shut other shows (image_place header.room slot + have) piece piece_inside piece_behind)
-      (put_pending header slot s r below shut other shows (image_place header.room slot + have) piece piece_inside piece_behind)
-      (put_shows header slot s r below shut other shows (image_place header.room slot + have) piece piece_inside piece_behind piece r.bytes refl shows.reads).stands
+      (put_stands header slot s r below shut other shows (image_place header.room slot + have) piece (piece_inside header slot below have piece fits) piece_behind)
+      (put_pending header slot s r below shut other shows (image_place header.room slot + have) piece (piece_inside header slot below have piece fits) piece_behind)
+      (put_shows header slot s r below shut other shows (image_place header.room slot + have) piece (piece_inside header slot below have piece fits) piece_behind piece r.bytes refl shows.reads).stands
 
   pub put_left_gates : RigHolds GatesHold s r → LeftAs GatesHold (reach 0 r.trap) Keep s (after_calls (Write (image_place header.room slot + have) piece ∷ []) r)
   put_left_gates gates = one_left GatesHold s (reach 0 r.trap) (image_place header.room slot + have) piece r gates
-      (put_pending_gates header slot s r below shut other shows (image_place header.room slot + have) piece piece_inside piece_behind gates)
-      (put_done_gates header slot s r below shut other shows (image_place header.room slot + have) piece piece_inside piece_behind gates)
+      (put_pending_gates header slot s r below shut other shows (image_place header.room slot + have) piece (piece_inside header slot below have piece fits) piece_behind gates)
+      (put_done_gates header slot s r below shut other shows (image_place header.room slot + have) piece (piece_inside header slot below have piece fits) piece_behind gates)
 
 -- a seal: the entry is written behind the closed gate, and then the gate decides
 module _ (header : DiskHeader) (slot : ℕ) (s : SlotPair) (image : List ℕ) (r : Rigged) (below : slot < 2) (shut : (slot_header slot header).opened ≡ false) (other : slot ≢ header.committed) (shows : RigHolds (λ bytes t. Shows header t bytes) s r)
@@ -194,11 +196,7 @@ module _ (header : DiskHeader) (slot : ℕ) (s : SlotPair) (image : List ℕ) (r
   apart e = other (e ∙ sym shows.reads.committed_is)
 
   entry_inside : (size : ℕ) → 4096 + 2 * header.room ≤ size → entry_place slot + length (entry image) ≤ size
-  entry_inside size long = subst (λ (n : ℕ). entry_place slot + n ≤ size) (sym (length-entry image)) (by slot)
-    where
-      by : (k : ℕ) → entry_place k + 22 ≤ size
-      by zero = omega (arith, long)
-      by (suc _) = omega (arith, long)
+  entry_inside size long = subst (λ (n : ℕ). entry_place slot + n ≤ size) (sym (length-entry image)) (entry_inside_disk slot size (omega (arith, long)))
 
   entry_is_behind : (old torn : List ℕ) → 4096 + 2 * header.room ≤ length old → Torn (entry_place slot) (length (entry image)) old torn → Behind header.room slot old torn
   entry_is_behind old torn long is = entry_behind header.room slot old torn below long (subst (λ (n : ℕ). Torn (entry_place slot) n old torn) (length-entry image) is)
