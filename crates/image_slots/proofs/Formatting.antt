@@ -3,18 +3,16 @@ use Rattle.std.proofs.Common.{◌≡◌, inl, inr, ℕ, ◌+◌, ◌-◌, ◌*�
 use Rattle.std.proofs.lemmas.Bool.{false≢true, cases_Bool}
 use Rattle.std.proofs.lemmas.List.{take-take}
 use Rattle.std.specs.Int.{to_be_bytes, w32}
-use Rattle.slot_spec.specs.declared.Trap.{Trap}
 use Rattle.slot_spec.specs.declared.Trap.TheVariants.{Clear}
 use Rattle.slot_spec.specs.declared.DiskHeader.{DiskHeader}
 use Rattle.slot_spec.specs.Crash.{field, Torn, Written}
-use Rattle.slot_spec.specs.Slots.{SlotPair}
 use Rattle.slot_spec.specs.Layout.{magic, entry, IsLength, IsOpen, GatesHold, version}
 use Rattle.slot_spec.specs.Rig.{Rigged, Call, Read, Write, Sync, call_fails, after_call, trap_after, after_calls, Makes, RigHolds}
 use Rattle.slot_spec.specs.Header.{view_of}
 use Rattle.slot_spec.specs.Owner.{Shows, Settled}
-use Rattle.slot_laws.proofs.Fields.{Apart, field_kept, get_or-field}
+use Rattle.slot_laws.proofs.Fields.{field_kept, get_or-field}
 use Rattle.slot_laws.proofs.Commit.{settled_by}
-use Rattle.image_slots.specs.Formats.{FormattedBody, Formatted, FormattedDisk, FormatLeaves, StaysClear, formatted_slots, formatted_length}
+use Rattle.image_slots.specs.Formats.{FormattedBody, Formatted, FormattedDisk, FormatLeaves, StaysClear, formatted_slots}
 
 -- these bytes stand at a place
 pub record At (place : ℕ) (bytes disk : List ℕ) : Type 0 where

@@ -1,8 +1,7 @@
 -- What a mount comes to, by what it read.
-use Rattle.std.proofs.Common.{◌≡◌, ℕ, ◌+◌, ◌≤◌, ◌&&◌, not, Bool, true, false, if◌then◌else◌, List, [], ◌∷◌, length, take, get_or, inl, inr, Option, Some, Result, Ok, Err, IfOk, IfErr, MatchResult, refl, sym, ◌∙◌, ap, subst, arith}
+use Rattle.std.proofs.Common.{◌≡◌, ℕ, ◌≤◌, Bool, if◌then◌else◌, List, [], ◌∷◌, length, take, get_or, inl, inr, Option, Some, Result, Ok, Err, IfOk, IfErr, MatchResult, refl, sym, ◌∙◌, ap, subst, arith}
 use Rattle.std.proofs.lemmas.Bool.{both_ways, cases_Bool, le-leb}
 use Rattle.std.proofs.lemmas.List.{get_or-take}
-use Rattle.slot_spec.specs.declared.Pick.{Pick}
 use Rattle.slot_spec.specs.Slots.{SlotPair}
 use Rattle.slot_spec.specs.Layout.{StandsAt, gate_place, entry_place}
 use Rattle.slot_spec.specs.Rig.{Rigged, Read, Sync, trap_is_met, after_call, after_calls}
@@ -14,7 +13,7 @@ use Rattle.slot_laws.proofs.Header.{header_shows, header-front, unit-front, unit
 use Rattle.image_slots.specs.declared.slots.Slots.{Slots}
 use Rattle.image_slots.specs.declared.mount.MountRefusal.{MountRefusal}
 use Rattle.image_slots.specs.declared.mount.MountRefusal.TheVariants.{NoUnit, Fault, NoImage}
-use Rattle.image_slots.specs.Mounts.{mount_disk, mount_syncs, MountFinds, HeadRefused, MountRefused, IsMountFault, MountLeaves}
+use Rattle.image_slots.specs.Mounts.{mount_disk, MountFinds, HeadRefused, MountRefused, IsMountFault, MountLeaves}
 
 -- what stands in the first 4,096 bytes stands in the disk
 pub front_finds : {D : Type 0} (size : ℕ) (head bytes : List ℕ) (slots : Slots D) → head ≡ take 4096 bytes → MountFinds size head slots → MountFinds size bytes slots
@@ -26,12 +25,13 @@ front_refuses size head bytes (NoUnit disk length magic room) front refused =
     (sym (ap (λ (x : List ℕ). has_unit size x) front ∙ unit-front size bytes) ∙ refused.0, refused.1, refused.2 ∙ ap (λ (x : List ℕ). take 8 x) front ∙ field-front 4096 0 8 bytes (omega arith), refused.3 ∙ ap (λ (x : List ℕ). number_at 8 x) front ∙ number-front 8 bytes (omega arith))
 front_refuses size head bytes (Fault disk) front refused = absurd refused
 front_refuses size head bytes (NoImage disk slot gate given) front refused =
-    let header : disk_header_in head ≡ disk_header_in bytes = ap disk_header_in front ∙ header-front bytes in
-    (sym (ap (λ (x : List ℕ). has_unit size x) front ∙ unit-front size bytes) ∙ refused.0,
+    let header : disk_header_in head ≡ disk_header_in bytes = ap disk_header_in front ∙ header-front bytes in (
+      sym (ap (λ (x : List ℕ). has_unit size x) front ∙ unit-front size bytes) ∙ refused.0,
       refused.1 ∙ ap (λ h. h.committed) header,
       ap (λ h. view_at slot h) (sym header) ∙ refused.2,
       refused.3 ∙ ap (λ (x : List ℕ). get_or x (gate_place slot) 0) front ∙ get_or-take 4096 bytes (gate_place slot) 0 (gate_fits slot),
-      refused.4 ∙ ap (λ (x : List ℕ). number_at (entry_place slot) x) front ∙ number-front (entry_place slot) bytes (omega (arith, entry_fits slot)))
+      refused.4 ∙ ap (λ (x : List ℕ). number_at (entry_place slot) x) front ∙ number-front (entry_place slot) bytes (omega (arith, entry_fits slot)),
+    )
 
 module _ {D : Type 0} (seen : D → Option (List ℕ)) (may_leave : D → List ℕ → Type 0) where
   pub mount_answers : (disk : D) (size room : ℕ) (head bytes : List ℕ) (s : SlotPair) (r : Result (Slots D) (MountRefusal D)) → head ≡ take 4096 bytes → size ≡ length bytes → StandsAt room bytes s

@@ -1,5 +1,5 @@
 -- What is said of a result's value, taken further.
-use Rattle.std.proofs.Common.{◌≡◌, true, Result, Ok, Err, IfOk, IfErr, OnOk}
+use Rattle.std.proofs.Common.{Result, Ok, Err, IfOk, IfErr, OnOk}
 
 pub IfOk-more : {T E : Type 0} (r : Result T E) (P Q : T → Type 0) → IfOk r P → ((x : T) → P x → Q x) → IfOk r Q
 IfOk-more (Ok x) P Q p more = more x p

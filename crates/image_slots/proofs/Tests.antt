@@ -1,6 +1,6 @@
 -- The tests of a begin and of a seal, where they fail.
-use Rattle.std.proofs.Common.{◌≡◌, ◌≢◌, ◌⊎◌, inl, inr, ℕ, ◌≤◌, ◌<◌, ◌&&◌, ◌==◌, not, Bool, true, false, nat_le, refl, ap, ◌∙◌, arith}
-use Rattle.std.proofs.lemmas.Bool.{eq-eqb, ne_eqb, lt-leb, cases_eq}
+use Rattle.std.proofs.Common.{◌≡◌, ◌≢◌, ◌⊎◌, inl, inr, ℕ, ◌<◌, ◌&&◌, ◌==◌, not, Bool, true, false, nat_le, refl, arith}
+use Rattle.std.proofs.lemmas.Bool.{eq-eqb, ne_eqb, lt-leb}
 use Rattle.slot_spec.specs.declared.DiskHeader.{DiskHeader}
 use Rattle.image_slots.specs.Answers.{begin_tests, seal_tests}
 

@@ -20,7 +20,8 @@ use Rattle.slot_spec.specs.Layout.{version, commit_place, gate_place, entry_plac
 use Rattle.slot_spec.specs.Rig.{Call, Write, Sync}
 use Rattle.slot_spec.specs.Header.{view_at, slot_header}
 
--- COMMIT. The disk that an answer holds, whether it is a fault, and when each refusal comes: a refusal hands the slots back as they were.
+-- COMMIT. The disk that an answer holds, whether it is a fault, and when each refusal comes: a
+-- refusal hands the slots back as they were.
 abbrev pub commit_disk : {D : Type 0} → Result (Slots D) (CommitRefusal D) → D
 commit_disk (Ok slots) = slots.disk
 commit_disk (Err (commit.NotValid slots)) = slots.disk
@@ -138,7 +139,8 @@ IsSealFault (seal.Fault broken) = Unit {0}
 IsSealFault (seal.Size slots have given) = ⊥
 IsSealFault (seal.Check slots computed given) = ⊥
 
--- the image is there whole, of the length that was begun and given, with the check value that was given
+-- the image is there whole, of the length that was begun and given, with the check value that was
+-- given
 abbrev pub seal_tests : ℕ → ℕ → ℕ → ℕ → ℕ → Bool
 seal_tests check given have size computed = (have == size && given == have) && computed == check
 

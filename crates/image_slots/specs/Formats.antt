@@ -59,7 +59,8 @@ FormatRefused before space asked (Fault disk) = (1 ≤ asked) × (asked ≤ spac
 abbrev pub StaysClear : Option Rigged → Option Rigged → Type 0
 StaysClear old new = (r : Rigged) → old ≡ Some r → (after : Rigged) × (new ≡ Some after) × (r.trap ≡ Clear → after.trap ≡ Clear)
 
--- over a rig: what the disk reads as and what a cut with each pick would leave stand for the slots, each open gate has an image, and where there was no trap there is none
+-- over a rig: what the disk reads as and what a cut with each pick would leave stand for the slots,
+-- each open gate has an image, and where there was no trap there is none
 pub record FormatLeaves (room : ℕ) (image : List ℕ) (r after : Rigged) : Type 0 where
   pub stands : RigHolds (StandsAt room) (formatted_slots image) after
   pub gates : RigHolds GatesHold (formatted_slots image) after

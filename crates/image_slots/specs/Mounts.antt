@@ -1,5 +1,5 @@
 -- What a mount answers, and the device calls that it makes.
-use Rattle.std.specs.Prelude.{◌≡◌, ℕ, ◌<◌, ◌≤◌, not, ◌&&◌, Bool, true, false, if◌then◌else◌, nat_lt, nat_le, [], ◌∷◌, List, get_or, length, replicate, None, IsSome, Result, Ok, Err}
+use Rattle.std.specs.Prelude.{◌≡◌, ℕ, not, ◌&&◌, Bool, true, false, if◌then◌else◌, nat_lt, nat_le, [], ◌∷◌, List, get_or, length, None, IsSome, Result, Ok, Err}
 use Rattle.slot_spec.specs.declared.Pick.{Pick}
 use Rattle.slot_spec.specs.declared.TheConstants.{HEADER_BYTES, ROOM_PLACE}
 use Rattle.image_slots.specs.declared.slots.Slots.{Slots}
@@ -52,7 +52,8 @@ IsMountFault (NoImage disk slot gate given) = ⊥
 abbrev pub mount_syncs : ℕ → Rigged → Bool
 mount_syncs size r = nat_le HEADER_BYTES size && not (trap_is_met r.trap)
 
--- A mount leaves what the disk reads as. Where its first sync is done, a cut with each pick leaves the same; else what it would have left before.
+-- A mount leaves what the disk reads as. Where its first sync is done, a cut with each pick leaves
+-- the same; else what it would have left before.
 pub record MountLeaves (size : ℕ) (r after : Rigged) : Type 0 where
   pub reads : after.bytes ≡ r.bytes
   pub cuts : (pick : Pick) → after.cut pick ≡ (if mount_syncs size r then r.bytes else r.cut pick)

@@ -7,7 +7,8 @@ pub record Mounted (D : Type 0) : Type 0 where
   pub disk : D
   pub header : DiskHeader
 
--- the same while an image is put into a slot: which slot, how long the image is to be, how much of it is there, and the check value and the version of that part
+-- the same while an image is put into a slot: which slot, how long the image is to be, how much of
+-- it is there, and the check value and the version of that part
 pub record Loading (D : Type 0) : Type 0 where
   pub disk : D
   pub header : DiskHeader

@@ -20,8 +20,9 @@ use slot_disk::{Disk, Rig, Trap};
 use slot_spec::{DiskHeader, OPEN_GATE, SlotHeader, VERSION_BYTES};
 use std::marker::Model;
 
-/// A disk of two image slots while an image is put into the slot that isn't committed, behind its closed gate. It comes from
-/// [`Slots::begin`]; [`Download::seal`] and [`Download::abandon`] end it.
+/// A disk of two image slots while an image is put into the slot that isn't committed, behind its
+/// closed gate. It comes from [`Slots::begin`]; [`Download::seal`] and [`Download::abandon`] end
+/// it.
 #[derive(Drop)]
 pub struct Download<D: Disk> {
     pub(crate) disk: D,
@@ -63,7 +64,8 @@ pub enum PutRefusal<D: Disk> {
 /// Why an image was not sealed. The slot is then not valid.
 #[derive(Drop)]
 pub enum SealRefusal<D: Disk> {
-    /// The bytes that are there, the size that was begun and the size that was given aren't all equal.
+    /// The bytes that are there, the size that was begun and the size that was given aren't all
+    /// equal.
     Size {
         slots: Slots<D>,
         have: u32,
@@ -127,7 +129,8 @@ impl<D: Disk> Download<D> {
         self.disk
     }
 
-    /// Puts the next bytes of the image into the slot, by one write. It isn't synced: nothing stands for it while the gate is closed.
+    /// Puts the next bytes of the image into the slot, by one write. It isn't synced: nothing
+    /// stands for it while the gate is closed.
     #[tactic(auto, unfolding(slot_spec::specs::Rig::after_calls, slot_spec::specs::Rig::calls_fail))]
     pub fn put(self, piece: &[u8]) -> Result<Download<D>, PutRefusal<D>>
         ensures moments { (s : SlotPair) (put : List ℕ) → Filling D.seen D.may_leave self.disk self.header self.target s put → Loaded self put → Moments D.clock D.left_since D.may_leave self.disk (put_disk result) (StandsAmong self.header.room (mid Keep s)) }
@@ -187,8 +190,9 @@ impl<D: Disk> Download<D> {
         }
     }
 
-    /// Makes the image valid, where it is there whole and its check value is the one that was given. The entry is written and
-    /// synced behind the closed gate, by device calls 1 and 2; then the gate is opened and synced, by calls 3 and 4.
+    /// Makes the image valid, where it is there whole and its check value is the one that was
+    /// given. The entry is written and synced behind the closed gate, by device calls 1 and 2; then
+    /// the gate is opened and synced, by calls 3 and 4.
     #[tactic(auto, unfolding(slot_spec::specs::Rig::after_calls, slot_spec::specs::Rig::calls_fail))]
     pub fn seal(self, crc: u32, size: u32) -> Result<Slots<D>, SealRefusal<D>>
         ensures moments { (s : SlotPair) (put : List ℕ) → Filling D.seen D.may_leave self.disk self.header self.target s put → Loaded self put → Moments D.clock D.left_since D.may_leave self.disk (seal_disk result) (StandsAmong self.header.room (mid (seal_change crc size self.target self.have self.size self.crc put) s)) }

@@ -28,8 +28,9 @@ pub enum FormatRefusal<D: Disk> {
 }
 
 impl<D: Disk> Slots<D> {
-    /// Makes a disk of slots with room for so many bytes each: the image stands in slot 0, which is committed, and slot 1 is not
-    /// valid. The room is 1 to [`slot_spec::MAX_ROOM`]. The magic is taken away first, with a sync, and stands again last.
+    /// Makes a disk of slots with room for so many bytes each: the image stands in slot 0, which is
+    /// committed, and slot 1 is not valid. The room is 1 to [`slot_spec::MAX_ROOM`]. The magic is
+    /// taken away first, with a sync, and stands again last.
     pub fn format(disk: D, room: u32, image: &[u8]) -> Result<Slots<D>, FormatRefusal<D>>
         requires some { 1 ≤ room }
         requires small { room ≤ 16777216 }
@@ -98,7 +99,8 @@ fn lay_out<D: Disk>(
     Ok(())
 }
 
-// Writes what stands behind the magic: the room, the committed slot, the gates, the entry of slot 0, its image and the last byte.
+// Writes what stands behind the magic: the room, the committed slot, the gates, the entry of slot
+// 0, its image and the last byte.
 fn write_body<D: Disk>(
     disk: &mut D,
     room: u32,

@@ -21,8 +21,9 @@ use slot_spec::{HEADER_BYTES, ROOM_PLACE};
 /// Why a disk was not mounted.
 #[derive(Drop)]
 pub enum MountRefusal<D: Disk> {
-    /// It isn't a disk of slots: it has fewer than 4,096 bytes (magic and room are then zeros), another magic, a room that isn't
-    /// in 1 to [`slot_spec::MAX_ROOM`], or no length for two slots of that room.
+    /// It isn't a disk of slots: it has fewer than 4,096 bytes (magic and room are then zeros),
+    /// another magic, a room that isn't in 1 to [`slot_spec::MAX_ROOM`], or no length for two slots
+    /// of that room.
     NoUnit {
         disk: D,
         length: u64,
@@ -43,8 +44,9 @@ pub enum MountRefusal<D: Disk> {
 }
 
 impl<D: Disk> Slots<D> {
-    /// Takes the slots of a disk that has so many bytes. A write that was pending is settled by a sync, and the first 4,096 bytes
-    /// are read: device calls 1 and 2. A disk with fewer bytes than these isn't called.
+    /// Takes the slots of a disk that has so many bytes. A write that was pending is settled by a
+    /// sync, and the first 4,096 bytes are read: device calls 1 and 2. A disk with fewer bytes than
+    /// these isn't called.
     ///
     /// The check value and the version of an entry are taken as they stand; the image isn't read.
     #[tactic(auto, unfolding(slot_spec::specs::Rig::after_calls, slot_spec::specs::Rig::calls_fail))]

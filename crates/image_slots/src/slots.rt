@@ -19,8 +19,8 @@ use slot_disk::{Disk, Rig, Trap};
 use slot_spec::{CLOSED_GATE, DiskHeader, SlotHeader, VERSION_BYTES};
 use std::marker::Model;
 
-/// A disk of two image slots of which one is committed. It comes from [`Slots::format`] or [`Slots::mount`], and from a download
-/// that was sealed or given up.
+/// A disk of two image slots of which one is committed. It comes from [`Slots::format`] or
+/// [`Slots::mount`], and from a download that was sealed or given up.
 #[derive(Drop)]
 pub struct Slots<D: Disk> {
     pub(crate) disk: D,
@@ -110,8 +110,9 @@ impl<D: Disk> Slots<D> {
         self.disk
     }
 
-    /// Commits a slot: the unit takes it from its next start on. The write of the commit byte and its sync are device calls 1 and
-    /// 2; a commit of the slot that is committed makes none. A slot is 0 or 1.
+    /// Commits a slot: the unit takes it from its next start on. The write of the commit byte and
+    /// its sync are device calls 1 and 2; a commit of the slot that is committed makes none. A slot
+    /// is 0 or 1.
     #[tactic(auto, unfolding(slot_spec::specs::Rig::after_calls, slot_spec::specs::Rig::calls_fail))]
     pub fn commit(self, slot: u8) -> Result<Slots<D>, CommitRefusal<D>>
         requires slot { slot < 2 }
@@ -146,9 +147,10 @@ impl<D: Disk> Slots<D> {
         }
     }
 
-    /// Begins a download of so many bytes into the slot that isn't committed; from then on the slot is not valid. An open gate is
-    /// closed first: its write and sync are device calls 1 and 2. A gate that is closed isn't written, since until its sync a write
-    /// may leave any byte, that of an open gate too. A slot is 0 or 1.
+    /// Begins a download of so many bytes into the slot that isn't committed; from then on the slot
+    /// is not valid. An open gate is closed first: its write and sync are device calls 1 and 2. A
+    /// gate that is closed isn't written, since until its sync a write may leave any byte, that of
+    /// an open gate too. A slot is 0 or 1.
     #[tactic(auto, unfolding(slot_spec::specs::Rig::after_calls, slot_spec::specs::Rig::calls_fail))]
     pub fn begin(self, slot: u8, size: u32) -> Result<Download<D>, BeginRefusal<D>>
         requires slot { slot < 2 }

@@ -1,6 +1,6 @@
 -- What the parts of a call make of a disk in memory.
 use Rattle.std.proofs.Common.{◌≡◌, ◌⊎◌, inl, inr, ℕ, zero, suc, ◌+◌, ◌-◌, ◌≤◌, ◌<◌, Bool, true, false, if◌then◌else◌, ◌&&◌, ◌||◌, not, nat_le, List, [], ◌∷◌, length, get_or, take, drop, replicate, Some, refl, sym, ◌∙◌, ap, subst, arith, length-take, length-drop}
-use Rattle.std.proofs.lemmas.Bool.{cases_lt, cases_Bool, true≢false}
+use Rattle.std.proofs.lemmas.Bool.{cases_lt, true≢false}
 use Rattle.std.proofs.lemmas.List.{length-replicate, get_or-take, get_or-drop, get_or-replicate, get_or_past}
 use Rattle.std.proofs.lemmas.Grind.{same_number_lists}
 use Rattle.slot_spec.specs.declared.Pick.{Pick}
@@ -49,7 +49,8 @@ finished_is_disk m at from disk within all =
       newest_same = λ k clean. disk.newest_same k clean ∙ sym (over_elsewhere at from m.bytes within k 0 (outside at (length from) m.dirty k all clean));
     }
 
--- what a crash may leave once a write has after_begin, it leaves of a disk that it could leave before
+-- what a crash may leave once a write has after_begin, it leaves of a disk that it could leave
+-- before
 module _ (m : MemState) (at : ℕ) (from : List ℕ) (disk : IsDisk m) (within : at + length from ≤ length m.bytes) where
   abbrev part : List ℕ
   part = field at (length from) m.bytes

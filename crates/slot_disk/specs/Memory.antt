@@ -9,7 +9,8 @@ use Rattle.slot_spec.specs.declared.Trap.TheVariants.{Clear}
 use Rattle.slot_spec.specs.Rig.{Rigged, with_bytes, trap_after, trap_after_restore, pick_of}
 use Rattle.omci_core.specs.Memory.{one_more}
 
--- What a read gives; what stood at the last sync; the newest bytes, those of a write at a fuse's call among them; which bytes were written since the last sync; the trap; the faults so far.
+-- What a read gives; what stood at the last sync; the newest bytes, those of a write at a fuse's
+-- call among them; which bytes were written since the last sync; the trap; the faults so far.
 pub record MemState : Type 0 where
   pub bytes : List ℕ
   pub settled : List ℕ
@@ -18,7 +19,8 @@ pub record MemState : Type 0 where
   pub trap : Trap
   pub faults : ℕ
 
--- the lists are of one length, and a byte that wasn't written since the last sync is the same in all three
+-- the lists are of one length, and a byte that wasn't written since the last sync is the same in
+-- all three
 pub record IsDisk (m : MemState) : Type 0 where
   pub settled_long : length m.settled ≡ length m.bytes
   pub newest_long : length m.newest ≡ length m.bytes
@@ -31,7 +33,8 @@ abbrev pub with_byte : ℕ → List Bool → List ℕ → List ℕ
 with_byte b (mark ∷ marks) (x ∷ bytes) = (if mark then b else x) ∷ with_byte b marks bytes
 with_byte b marks bytes = bytes
 
--- what a cut leaves: old, new, or the stated byte in each place that was written since the last sync
+-- what a cut leaves: old, new, or the stated byte in each place that was written since the last
+-- sync
 abbrev pub cut_by : List ℕ → List ℕ → List Bool → Pick → List ℕ
 cut_by settled newest dirty Old = settled
 cut_by settled newest dirty New = newest
@@ -52,7 +55,8 @@ MayLeave m image = Loose m image ⊎ ((pick : Pick) × (image ≡ cut_of m pick)
 abbrev pub rigged : MemState → Rigged
 rigged m = record { bytes = m.bytes; cut = cut_of m; trap = m.trap }
 
--- the parts of a call: the trap comes one call nearer; a fault is counted; a write begins, so that it counts for a cut; a read gives it; all is settled
+-- the parts of a call: the trap comes one call nearer; a fault is counted; a write begins, so that
+-- it counts for a cut; a read gives it; all is settled
 abbrev pub after_step : MemState → MemState
 after_step m = record m { trap = trap_after m.trap }
 

@@ -11,10 +11,12 @@ use slot_spec::Trap;
 
 /// A disk: bytes that are read and written at their places, and that a sync makes durable.
 ///
-/// Where a disk tells what it holds, its calls have these meanings. Between two syncs a crash may leave any bytes in a range that
-/// was written, and past the old end; every other byte stays. After a sync that is done a crash leaves what a read gives. A disk
-/// as it reads is one of those that a crash may leave. A disk that tells nothing, as a file of the system does, meets the
-/// clauses by its count of faults alone; what is proved of its owner then holds as far as the file keeps this model.
+/// Where a disk tells what it holds, its calls have these meanings. Between two syncs a crash may
+/// leave any bytes in a range that was written, and past the old end; every other byte stays. After
+/// a sync that is done a crash leaves what a read gives. A disk as it reads is one of those that a
+/// crash may leave. A disk that tells nothing, as a file of the system does, meets the clauses by
+/// its count of faults alone; what is proved of its owner then holds as far as the file keeps this
+/// model.
 pub trait Disk: Drop {
     // What a read gives, where the disk tells it.
     ghost seen: { Self → Option (List ℕ) };
@@ -51,8 +53,8 @@ pub trait Disk: Drop {
         ensures rig { Makes (Read at (length into.new) ∷ []) (rig self.old) (rig self.new) (is_err result) }
         ensures cause { HasCause (faults self.old) (faults self.new) result };
 
-    /// Writes the bytes of a range, which may end past the disk's end where the disk can grow. Until a sync a crash may leave
-    /// any bytes there, and so may a write that failed.
+    /// Writes the bytes of a range, which may end past the disk's end where the disk can grow.
+    /// Until a sync a crash may leave any bytes there, and so may a write that failed.
     fn write_at(&mut self, at: u64, from: &[u8]) -> Result<(), Failed>
         ensures written { (bytes : List ℕ) → seen self.old ≡ Some bytes → OnOk result ((now : List ℕ) × (seen self.new ≡ Some now) × Written at from.now bytes now) }
         ensures told { IsSome (seen self.old) → IsSome (seen self.new) }
@@ -84,7 +86,8 @@ pub trait Disk: Drop {
     ghost only_now: { (disk : Self) (image : List ℕ) → left_since disk (clock disk) image → may_leave disk image };
 }
 
-/// A disk whose calls can be made to fail: it tells what it holds, what a cut of the power would leave, and what stops it.
+/// A disk whose calls can be made to fail: it tells what it holds, what a cut of the power would
+/// leave, and what stops it.
 pub trait Rig: Disk {
     /// Sets the trap, and changes nothing else. Calls are counted from 1, from now on.
     fn rig(&mut self, trap: Trap)

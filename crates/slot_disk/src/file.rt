@@ -9,9 +9,10 @@ use std::io::{Read, Seek, SeekFrom, Write};
 use std::marker::Model;
 use std::str;
 
-/// A file of the system as a disk: `attach` opens it for reading and writing, and makes an empty one where there is none. It
-/// tells nothing of its bytes: what a crash leaves of them is up to the system. Each call that fails is counted, also one before
-/// `attach`; at its last value the count stays.
+/// A file of the system as a disk: `attach` opens it for reading and writing, and makes an empty
+/// one where there is none. It tells nothing of its bytes: what a crash leaves of them is up to the
+/// system. Each call that fails is counted, also one before `attach`; at its last value the count
+/// stays.
 #[derive(Drop)]
 pub struct FileDisk<R: Files + Drop> {
     rt: R,

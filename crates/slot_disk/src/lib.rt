@@ -1,5 +1,6 @@
-//! A disk as its owner sees it: what a read gives, what a crash may leave, and what makes a call fail. Beside the traits stand a
-//! disk in memory, whose power can be cut at each call, and one over a file of the system.
+//! A disk as its owner sees it: what a read gives, what a crash may leave, and what makes a call
+//! fail. Beside the traits stand a disk in memory, whose power can be cut at each call, and one
+//! over a file of the system.
 #![tactic(auto)]
 
 mod disk;

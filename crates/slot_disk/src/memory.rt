@@ -10,8 +10,8 @@ use slot_spec::{Pick, Trap};
 use std::alloc::Global;
 use std::marker::Model;
 
-/// A disk in memory, of a fixed length. The power can be cut at a call, and a call can be made to fail; a write that ends past
-/// the disk fails. Once it was made, no call of it takes memory.
+/// A disk in memory, of a fixed length. The power can be cut at a call, and a call can be made to
+/// fail; a write that ends past the disk fails. Once it was made, no call of it takes memory.
 #[derive(Drop)]
 pub struct MemDisk {
     bytes: Vec<u8>,
@@ -250,8 +250,9 @@ impl MemDisk {
         self.trap = Trap::Fail { call };
     }
 
-    /// The power comes back: each byte that was written since the last sync is as the fuse's pick says, or new where there is no
-    /// fuse. A cut then leaves what a read gives. A fuse that was reached is taken away; any other trap stays.
+    /// The power comes back: each byte that was written since the last sync is as the fuse's pick
+    /// says, or new where there is no fuse. A cut then leaves what a read gives. A fuse that was
+    /// reached is taken away; any other trap stays.
     pub fn restore(&mut self)
         ensures state { self.new ≡ after_restore self.old }
         ensures rig { rigged self.new ≡ power_restored (rigged self.old) }

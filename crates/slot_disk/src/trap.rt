@@ -55,7 +55,8 @@ pub fn without_spent_fuse(trap: Trap) -> Trap
     }
 }
 
-// What a cut gives to the bytes that were written: the fuse's pick, and the new bytes where there is no fuse.
+// What a cut gives to the bytes that were written: the fuse's pick, and the new bytes where there
+// is no fuse.
 pub fn pick(trap: Trap) -> Pick
     ensures pick { result ≡ pick_of trap }
 {

@@ -1,5 +1,6 @@
--- The calls of a disk that can be made to fail: one after the other, and a write with the sync after it.
-use Rattle.std.proofs.Common.{◌≡◌, inl, inr, ℕ, zero, suc, ◌+◌, ◌-◌, ◌&&◌, ◌||◌, not, Bool, true, false, if◌then◌else◌, nat_le, nat_lt, List, [], ◌∷◌, ◌++◌, length, Option, Some, refl, sym, ◌∙◌, ap, subst, arith}
+-- The calls of a disk that can be made to fail: one after the other, and a write with the sync
+-- after it.
+use Rattle.std.proofs.Common.{◌≡◌, inl, inr, ℕ, zero, suc, ◌-◌, ◌&&◌, ◌||◌, not, Bool, true, false, if◌then◌else◌, nat_le, nat_lt, List, [], ◌∷◌, ◌++◌, length, Option, Some, refl, sym, ◌∙◌, ap, subst, arith}
 use Rattle.std.proofs.lemmas.Bool.{true≢false, cases_Bool, lt-leb, le-ltb}
 use Rattle.slot_spec.specs.declared.Pick.{Pick}
 use Rattle.slot_spec.specs.declared.Pick.TheVariants.{Old, New, Byte}
@@ -151,7 +152,8 @@ two_done at new r inside = by r.trap
         let next : nat_le (suc (suc (suc call)) - 1) 1 ≡ false = lt-leb (suc (suc (suc call)) - 1) 1 (omega arith) in
         rw (inside, one, next) refl
 
--- where the first two of four calls stop, the third decides nothing; else it is the first of those left
+-- where the first two of four calls stop, the third decides nothing; else it is the first of those
+-- left
 pub two_stopped : (at : ℕ) (new : List ℕ) (r : Rigged) → in_disk at (length new) r ≡ true → calls_fail (Write at new ∷ Sync ∷ []) r ≡ true → reach 3 r.trap ≡ Before
 unfolding calls_fail
 two_stopped at new r inside = by r.trap
@@ -192,7 +194,8 @@ two_left at new r inside = by r.trap
     by (Fuse (suc (suc (suc (suc zero)))) p) goes = refl
     by (Fuse (suc (suc (suc (suc (suc call))))) p) goes = rw (le-ltb ((suc (suc (suc (suc (suc call))))) - 1 - 1) 1 (omega arith), lt-leb ((suc (suc (suc (suc (suc call))))) - 1 - 1) 2 (omega arith), le-ltb (suc (suc (suc (suc (suc call))))) 3 (omega arith), lt-leb (suc (suc (suc (suc (suc call))))) 4 (omega arith)) refl
 
--- What is left has P, by how far the calls came. Each law asks for P of the disk as it was, of the writes that count for a cut, and of those that are done.
+-- What is left has P, by how far the calls came. Each law asks for P of the disk as it was, of the
+-- writes that count for a cut, and of those that are done.
 module _ (P : List ℕ → SlotPair → Type 0) (s : SlotPair) where
   -- a request that keeps the slots leaves them, however far it came
   keep_left : (far : Reach) (pick : Pick) → slots_left far Keep s pick ≡ s

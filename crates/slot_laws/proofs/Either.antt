@@ -1,6 +1,6 @@
 -- A cut leaves the slots before the request or those after it.
-use Rattle.std.proofs.Common.{◌≡◌, ◌≢◌, ◌⊎◌, inl, inr, ℕ, ◌+◌, ◌%◌, ◌==◌, ◌<◌, Bool, true, false, if◌then◌else◌, List, Some, None, refl, sym, ◌∙◌, ap, subst, arith}
-use Rattle.std.proofs.lemmas.Bool.{cases_Bool, cases_eq}
+use Rattle.std.proofs.Common.{◌≡◌, ◌≢◌, ◌⊎◌, inl, inr, ℕ, ◌%◌, ◌==◌, ◌<◌, Bool, true, false, if◌then◌else◌, refl, ap, arith}
+use Rattle.std.proofs.lemmas.Bool.{cases_eq}
 use Rattle.slot_spec.specs.declared.Pick.{Pick}
 use Rattle.slot_spec.specs.declared.Pick.TheVariants.{Old, New, Byte}
 use Rattle.slot_spec.specs.declared.Trap.{Trap}

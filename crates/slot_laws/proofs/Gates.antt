@@ -1,5 +1,5 @@
 -- Open gates have an image in their slot: what a write leaves of that.
-use Rattle.std.proofs.Common.{◌≡◌, inl, inr, ℕ, zero, suc, ◌<◌, List, Option, Some, None, IsSome, sym, ◌∙◌, arith}
+use Rattle.std.proofs.Common.{◌≡◌, ℕ, zero, suc, ◌<◌, List, Option, IsSome, sym, ◌∙◌, arith}
 use Rattle.slot_spec.specs.Crash.{field}
 use Rattle.slot_spec.specs.Slots.{SlotPair, with_image}
 use Rattle.slot_spec.specs.Layout.{gate_place, IsOpen, GatesHold}

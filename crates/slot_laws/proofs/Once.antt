@@ -1,8 +1,7 @@
 -- Bytes stand for one room and one pair of slots.
-use Rattle.std.proofs.Common.{◌≡◌, ℕ, ◌+◌, ◌*◌, ◌%◌, ◌^◌, ◌≤◌, ◌<◌, List, length, take, get_or, Option, Some, None, refl, sym, ◌∙◌, ap, subst, arith}
+use Rattle.std.proofs.Common.{◌≡◌, ℕ, ◌^◌, ◌≤◌, ◌<◌, List, length, take, Option, Some, None, refl, sym, ◌∙◌, ap, subst, arith}
 use Rattle.std.proofs.lemmas.Nat.{from_be_bytes-to_be_bytes_4}
-use Rattle.std.specs.Int.{from_be_bytes, to_be_bytes, w32}
-use Rattle.slot_spec.specs.Crash.{field}
+use Rattle.std.specs.Int.{from_be_bytes, w32}
 use Rattle.slot_spec.specs.Slots.{SlotPair}
 use Rattle.slot_spec.specs.Layout.{entry, given_length, IsLength, SlotStands, StandsAt}
 use Rattle.slot_laws.proofs.Header.{entry-length}

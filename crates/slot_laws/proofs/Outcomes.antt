@@ -1,5 +1,6 @@
--- What a request leaves of a disk that can be made to fail, by the trap's number: the slots that its deciding write gives, and an image behind each open gate.
-use Rattle.std.proofs.Common.{◌≡◌, ◌≢◌, inl, inr, ℕ, zero, suc, ◌+◌, ◌*◌, ◌%◌, ◌==◌, ◌<◌, ◌≤◌, true, false, List, [], ◌∷◌, ◌++◌, length, replicate, get_or, Option, Some, None, IsSome, refl, sym, ◌∙◌, ap, subst, arith}
+-- What a request leaves of a disk that can be made to fail, by the trap's number: the slots that
+-- its deciding write gives, and an image behind each open gate.
+use Rattle.std.proofs.Common.{◌≡◌, ◌≢◌, inl, inr, ℕ, zero, suc, ◌+◌, ◌*◌, ◌%◌, ◌<◌, ◌≤◌, true, false, List, [], ◌∷◌, ◌++◌, length, replicate, Some, None, IsSome, refl, sym, ◌∙◌, ap, subst, arith}
 use Rattle.std.proofs.lemmas.Bool.{cases_eq, le-leb, eq-eqb, ne_eqb}
 use Rattle.std.proofs.lemmas.List.{length-replicate}
 use Rattle.slot_spec.specs.declared.Pick.{Pick}
@@ -9,7 +10,7 @@ use Rattle.slot_spec.specs.Crash.{field, Torn, Written}
 use Rattle.slot_spec.specs.Slots.{SlotPair, Keep, Clear as ClearSlot, Seal, Commit, image_at, with_image, with_committed}
 use Rattle.slot_spec.specs.Layout.{gate_place, entry_place, image_place, entry, IsOpen, StandsAt, GatesHold}
 use Rattle.slot_spec.specs.Rig.{Rigged, Write, Sync, with_bytes, cut_with_bytes, in_disk, after_calls, trap_after, RigHolds}
-use Rattle.slot_spec.specs.Outcome.{Reach, reach, slots_pending, LeftAs}
+use Rattle.slot_spec.specs.Outcome.{reach, slots_pending, LeftAs}
 use Rattle.slot_spec.specs.Header.{slot_header}
 use Rattle.slot_spec.specs.Owner.{Shows}
 use Rattle.slot_laws.proofs.Splice.{with_bytes_written}

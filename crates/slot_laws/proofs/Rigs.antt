@@ -1,5 +1,5 @@
 -- What is known of a disk holds of what it reads as, and of what each cut would leave.
-use Rattle.std.proofs.Common.{◌≡◌, ℕ, true, false, List, Option, Some, sym, ◌∙◌, ap, subst}
+use Rattle.std.proofs.Common.{◌≡◌, ℕ, List, Option, Some, sym, ◌∙◌, subst}
 use Rattle.slot_spec.specs.declared.DiskHeader.{DiskHeader}
 use Rattle.slot_spec.specs.declared.Pick.{Pick}
 use Rattle.slot_spec.specs.Slots.{SlotPair}

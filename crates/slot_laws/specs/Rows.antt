@@ -1,5 +1,5 @@
 -- Slots and requests worked by hand.
-use Rattle.std.specs.Prelude.{ℕ, List, [], ◌∷◌, ◌++◌, replicate, Some, None}
+use Rattle.std.specs.Prelude.{ℕ, List, [], ◌∷◌, replicate, Some, None}
 use Rattle.slot_spec.specs.Slots.{SlotPair}
 
 -- the one-byte image `ff` is committed in slot 0, and slot 1 has no image

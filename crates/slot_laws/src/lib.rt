@@ -1,6 +1,6 @@
-//! Laws of the two image slots and of the bytes that stand for them, proved of the definitions alone.
-//! Each function does nothing: what it ensures is the law, and a caller's proof may cite it. The laws that the proofs of the
-//! code go by stand in `proofs/`, one file a subject.
+//! Laws of the two image slots and of the bytes that stand for them, proved of the definitions
+//! alone. Each function does nothing: what it ensures is the law, and a caller's proof may cite it.
+//! The laws that the proofs of the code go by stand in `proofs/`, one file a subject.
 #![tactic(auto)]
 
 ghost use Rattle.std.specs.Prelude.{◌≡◌, ◌≢◌, ◌⊎◌, ℕ, ◌<◌, List, [], ◌∷◌, Some};
@@ -13,8 +13,8 @@ ghost use Rattle.slot_spec.specs.Layout.{StandsAt, entry};
 ghost use Rattle.slot_spec.specs.Outcome.{outcome};
 ghost use Rattle.slot_laws.specs.Rows.{flashed, sealed, recommitted, one_byte_entry};
 
-/// Wherever the power is cut inside a request, and whatever the cut gives to the bytes that were written: the slots are those
-/// before the request, or those after it.
+/// Wherever the power is cut inside a request, and whatever the cut gives to the bytes that were
+/// written: the slots are those before the request, or those after it.
 pub fn cut_leaves_either()
     ensures either { (change : Change) (s : SlotPair) (trap : Trap) (pick : Pick) → s.committed < 2 → ((slot : ℕ) → change ≡ Commit slot → (slot < 2) × (slot ≢ s.committed)) → (outcome change s trap pick ≡ s) ⊎ (outcome change s trap pick ≡ after_change change s) }
 {}

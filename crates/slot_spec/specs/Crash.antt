@@ -10,7 +10,8 @@ abbrev pub SameElsewhere : ℕ → ℕ → List ℕ → List ℕ → Type 0
 SameElsewhere at count old new =
     (place : ℕ) → place < length old → (place < at) ⊎ (at + count ≤ place) → get_or new place 0 ≡ get_or old place 0
 
--- a write of so many bytes was begun: any bytes stand in the range and past the old end, the old ones elsewhere
+-- a write of so many bytes was begun: any bytes stand in the range and past the old end, the old
+-- ones elsewhere
 pub record Torn (at count : ℕ) (old new : List ℕ) : Type 0 where
   pub elsewhere : SameElsewhere at count old new
   pub no_shorter : length old ≤ length new
@@ -25,8 +26,9 @@ pub record Written (at : ℕ) (bytes old new : List ℕ) : Type 0 where
 abbrev pub TornFrom : ℕ → ℕ → (List ℕ → Type 0) → List ℕ → Type 0
 TornFrom at count before image = (old : List ℕ) × before old × Torn at count old image
 
--- From one state of a disk to a later one, each crash leaves a disk that has P: a crash now, and one at any moment between them.
--- A longer run that began before them goes on: what it could have left since then, it could have left before these calls, or it has P.
+-- From one state of a disk to a later one, each crash leaves a disk that has P: a crash now, and
+-- one at any moment between them. A longer run that began before them goes on: what it could have
+-- left since then, it could have left before these calls, or it has P.
 pub record Moments {D : Type 0} (clock : D → ℕ) (left_since : D → ℕ → List ℕ → Type 0) (may_leave : D → List ℕ → Type 0) (old new : D) (P : List ℕ → Type 0) : Type 0 where
   pub later : clock old ≤ clock new
   pub now : (image : List ℕ) → may_leave new image → P image

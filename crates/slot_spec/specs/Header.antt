@@ -1,5 +1,5 @@
 -- What the first bytes of a disk say of its slots.
-use Rattle.std.specs.Prelude.{◌≡◌, ℕ, zero, suc, ◌==◌, ◌&&◌, ◌+◌, ◌*◌, ◌%◌, nat_le, get_or, if◌then◌else◌, Bool, false, List, length, Option, Some, None}
+use Rattle.std.specs.Prelude.{ℕ, zero, suc, ◌==◌, ◌&&◌, ◌+◌, ◌*◌, ◌%◌, nat_le, get_or, if◌then◌else◌, Bool, false, List, length, Option, Some, None}
 use Rattle.std.specs.Int.{from_be_bytes, w32}
 use Rattle.std.specs.Str.{bytes_eq}
 use Rattle.omci_types.specs.declared.SlotView.{SlotView}

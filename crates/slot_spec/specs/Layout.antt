@@ -49,7 +49,8 @@ given_length bytes = from_be_bytes w32 (take 4 bytes)
 abbrev pub IsLength : ℕ → ℕ → Type 0
 IsLength room given = (1 ≤ given) × (given ≤ room)
 
--- a slot holds an image: its gate is open, the length is in range, the entry is that of the image, and the image stands at the content's front
+-- a slot holds an image: its gate is open, the length is in range, the entry is that of the image,
+-- and the image stands at the content's front
 pub record HoldsImage (room : ℕ) (gate given content image : List ℕ) : Type 0 where
   pub opened : gate ≡ open_gate ∷ []
   pub within : IsLength room (length image)

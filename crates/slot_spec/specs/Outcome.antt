@@ -1,5 +1,6 @@
--- The deciding write of a request, and the slots that a cut or a failure at a device call leaves, by the call's number.
-use Rattle.std.specs.Prelude.{◌≡◌, ℕ, ◌+◌, ◌%◌, ◌==◌, if◌then◌else◌, nat_lt, nat_le, true, false, List, Option, Some}
+-- The deciding write of a request, and the slots that a cut or a failure at a device call leaves,
+-- by the call's number.
+use Rattle.std.specs.Prelude.{◌≡◌, ℕ, ◌+◌, ◌%◌, ◌==◌, if◌then◌else◌, nat_lt, nat_le, false, List, Option, Some}
 use Rattle.slot_spec.specs.declared.Pick.{Pick}
 use Rattle.slot_spec.specs.declared.Pick.TheVariants.{Old, New, Byte}
 use Rattle.slot_spec.specs.declared.Trap.{Trap}
@@ -9,7 +10,8 @@ use Rattle.slot_spec.specs.Slots as change
 use Rattle.slot_spec.specs.Layout.{open_gate}
 use Rattle.slot_spec.specs.Rig.{Rigged, fuse_is_spent}
 
--- the number of the deciding write among the request's device calls; a request that keeps the slots has none
+-- the number of the deciding write among the request's device calls; a request that keeps the slots
+-- has none
 abbrev pub deciding_call : Change → ℕ
 deciding_call Keep = 0
 deciding_call (change.Clear target) = 1
@@ -53,8 +55,9 @@ slots_read After change s = after_change change s
 abbrev pub outcome : Change → SlotPair → Trap → Pick → SlotPair
 outcome change s trap pick = slots_left (reach (deciding_call change) trap) change s pick
 
--- After a request that came so far: what a cut with each pick would leave has P with the slots that it leaves.
--- So has what the disk reads as, unless a fuse was reached; then nothing is said of what it reads as.
+-- After a request that came so far: what a cut with each pick would leave has P with the slots that
+-- it leaves. So has what the disk reads as, unless a fuse was reached; then nothing is said of what
+-- it reads as.
 pub record LeftAs (P : List ℕ → SlotPair → Type 0) (far : Reach) (change : Change) (s : SlotPair) (after : Rigged) : Type 0 where
   pub cuts : (pick : Pick) → P (after.cut pick) (slots_left far change s pick)
   pub reads : fuse_is_spent after.trap ≡ false → P after.bytes (slots_read far change s)

@@ -20,14 +20,16 @@ pub record Shows (header : DiskHeader) (s : SlotPair) (bytes : List ℕ) : Type 
   pub first : ShowsSlot 0 header.first s.first bytes
   pub second : ShowsSlot 1 header.second s.second bytes
 
--- The disk reads as bytes that stand for the slots, each crash leaves such bytes, and the header is right for all of them.
+-- The disk reads as bytes that stand for the slots, each crash leaves such bytes, and the header is
+-- right for all of them.
 pub record Settled {D : Type 0} (seen : D → Option (List ℕ)) (may_leave : D → List ℕ → Type 0) (disk : D) (header : DiskHeader) (s : SlotPair) : Type 0 where
   pub bytes : List ℕ
   pub reads : seen disk ≡ Some bytes
   pub shows : Shows header s bytes
   pub crash : (image : List ℕ) → may_leave disk image → Shows header s image
 
--- The same while an image is put into a slot that isn't committed: so much of it stands there, behind a closed gate.
+-- The same while an image is put into a slot that isn't committed: so much of it stands there,
+-- behind a closed gate.
 pub record Filling {D : Type 0} (seen : D → Option (List ℕ)) (may_leave : D → List ℕ → Type 0) (disk : D) (header : DiskHeader) (target : ℕ) (s : SlotPair) (put : List ℕ) : Type 0 where
   pub settled : Settled seen may_leave disk header s
   pub shut : (slot_header target header).opened ≡ false
@@ -35,7 +37,8 @@ pub record Filling {D : Type 0} (seen : D → Option (List ℕ)) (may_leave : D 
   pub fits : length put ≤ header.room
   pub stands_there : field (image_place header.room target) (length put) settled.bytes ≡ put
 
--- After a write and its sync: a read gives the bytes in their range, and a crash leaves nothing but what a read gives.
+-- After a write and its sync: a read gives the bytes in their range, and a crash leaves nothing but
+-- what a read gives.
 pub record Stored {D : Type 0} (seen : D → Option (List ℕ)) (may_leave : D → List ℕ → Type 0) (at : ℕ) (bytes was : List ℕ) (disk : D) : Type 0 where
   pub now : List ℕ
   pub reads : seen disk ≡ Some now

@@ -1,11 +1,13 @@
--- A disk whose calls can be made to fail: what it holds, what a cut of the power would leave, and what each call makes of that.
+-- A disk whose calls can be made to fail: what it holds, what a cut of the power would leave, and
+-- what each call makes of that.
 use Rattle.std.specs.Prelude.{◌≡◌, ◌≤◌, ℕ, ◌+◌, ◌-◌, ◌==◌, ◌||◌, ◌&&◌, not, Bool, true, false, if◌then◌else◌, nat_le, List, [], ◌∷◌, ◌++◌, length, take, drop, replicate, Option, Some}
 use Rattle.slot_spec.specs.declared.Pick.{Pick}
 use Rattle.slot_spec.specs.declared.Pick.TheVariants.{Old, New, Byte}
 use Rattle.slot_spec.specs.declared.Trap.{Trap}
 use Rattle.slot_spec.specs.declared.Trap.TheVariants.{Fuse, Fail, Clear}
 
--- what a read gives; what a cut now would leave, by its pick; and the trap, with the number of calls that are left until it
+-- what a read gives; what a cut now would leave, by its pick; and the trap, with the number of
+-- calls that are left until it
 pub record Rigged : Type 0 where
   pub bytes : List ℕ
   pub cut : Pick → List ℕ
@@ -93,7 +95,8 @@ unfoldable pub calls_fail : List Call → Rigged → Bool
 calls_fail [] r = false
 calls_fail (call ∷ calls) r = if call_fails call r then true else calls_fail calls (after_call call r)
 
--- where the disk tells it: these calls were made up to the first that failed and no other, and the answer is a fault exactly where one failed
+-- where the disk tells it: these calls were made up to the first that failed and no other, and the
+-- answer is a fault exactly where one failed
 abbrev pub Makes : List Call → Option Rigged → Option Rigged → Bool → Type 0
 Makes calls old new failed = (r : Rigged) → old ≡ Some r → (new ≡ Some (after_calls calls r)) × (failed ≡ calls_fail calls r)
 
@@ -114,6 +117,7 @@ trap_after_restore (Fuse call pick) = if call == 0 then Clear else Fuse call pic
 trap_after_restore (Fail call) = Fail call
 trap_after_restore Clear = Clear
 
--- the power comes back: what a cut with the fuse's pick leaves is what a read gives, and a cut with each pick leaves it so
+-- the power comes back: what a cut with the fuse's pick leaves is what a read gives, and a cut with
+-- each pick leaves it so
 abbrev pub power_restored : Rigged → Rigged
 power_restored r = record { bytes = r.cut (pick_of r.trap); cut = λ pick. r.cut (pick_of r.trap); trap = trap_after_restore r.trap }

@@ -1,4 +1,5 @@
--- The two image slots, what a request makes of them, and the slots that a crash inside it may leave.
+-- The two image slots, what a request makes of them, and the slots that a crash inside it may
+-- leave.
 use Rattle.std.specs.Prelude.{ℕ, zero, suc, List, [], ◌∷◌, Option, Some, None}
 
 -- the images of slot 0 and slot 1, and which slot is committed
@@ -19,8 +20,9 @@ with_image (suc _) image s = record { first = s.first; second = image; committed
 abbrev pub with_committed : ℕ → SlotPair → SlotPair
 with_committed slot s = record { first = s.first; second = s.second; committed = slot }
 
--- What a request makes of the slots, once its tests hold:
--- nothing; the start of a download over an open gate, which leaves the slot without an image; its end, which gives the slot the whole image; a commit of the other slot.
+-- What a request makes of the slots, once its tests hold: nothing; the start of a download over an
+-- open gate, which leaves the slot without an image; its end, which gives the slot the whole image;
+-- a commit of the other slot.
 pub data Change : Type 0 where
   Keep : Change
   Clear : ℕ → Change
@@ -34,7 +36,8 @@ after_change (Clear target) s = with_image target None s
 after_change (Seal target image) s = with_image target (Some image) s
 after_change (Commit slot) s = with_committed slot s
 
--- the slots that a crash at some moment of the request may leave: those before its deciding write, and those after it
+-- the slots that a crash at some moment of the request may leave: those before its deciding write,
+-- and those after it
 abbrev pub mid : Change → SlotPair → List SlotPair
 mid Keep s = s ∷ []
 mid (Clear target) s = s ∷ with_image target None s ∷ []

@@ -1,5 +1,6 @@
-//! The two image slots of a unit: what they hold, what a request makes of them, the bytes of a disk that stand for them, and what a crash may leave of a disk.
-//! The crate has definitions and plain types alone.
+//! The two image slots of a unit: what they hold, what a request makes of them, the bytes of a disk
+//! that stand for them, and what a crash may leave of a disk. The crate has definitions and plain
+//! types alone.
 #![tactic(auto)]
 
 use omci_types::SlotView;
@@ -74,7 +75,8 @@ pub enum Pick {
     Byte(u8),
 }
 
-/// What makes a call of a disk fail. Calls are counted from 1, from when the trap was set; a fuse whose number is 0 was reached.
+/// What makes a call of a disk fail. Calls are counted from 1, from when the trap was set; a fuse
+/// whose number is 0 was reached.
 #[derive(Clone, Copy, Debug, PartialEq, Eq)]
 pub enum Trap {
     /// The power stops at this call, and each later call fails.

@@ -19,9 +19,11 @@ loop-byte-preserved c = let l = c.loop-byte in let piece = c.args.piece.now in r
 }
 
 pub returns-then-place-ge-VERSION_BYTES : goal.returns-then-place-ge-VERSION_BYTES
-returns-then-place-ge-VERSION_BYTES c = record { version = λ put have was.
-  let l = c.loop-byte in
-  let piece = c.args.piece.now in
-  let long = so_many put piece l.byte-index (omega (arith, c.loop-byte-test.true)) in
-  l.invariant.so_far put have was ∙ sym (version_full (put ++ take l.byte-index piece) (drop l.byte-index piece) (omega (arith, long, l.invariant.place, have, c.if-place-ge-VERSION_BYTES.true)))
-  ∙ ap version (append_assoc put (take l.byte-index piece) (drop l.byte-index piece) ∙ ap (λ (x : List ℕ). put ++ x) (take-append-drop l.byte-index piece)) }
+returns-then-place-ge-VERSION_BYTES c = record {
+  version = λ put have was.
+      let l = c.loop-byte in
+      let piece = c.args.piece.now in
+      let long = so_many put piece l.byte-index (omega (arith, c.loop-byte-test.true)) in
+      l.invariant.so_far put have was ∙ sym (version_full (put ++ take l.byte-index piece) (drop l.byte-index piece) (omega (arith, long, l.invariant.place, have, c.if-place-ge-VERSION_BYTES.true)))
+      ∙ ap version (append_assoc put (take l.byte-index piece) (drop l.byte-index piece) ∙ ap (λ (x : List ℕ). put ++ x) (take-append-drop l.byte-index piece));
+}

@@ -1,4 +1,4 @@
-use Rattle.std.proofs.Common.{◌≡◌, ◌+◌, ◌≤◌, ℕ, [], ◌∷◌, length, nat_le, true, inl, ap, subst, arith}
+use Rattle.std.proofs.Common.{◌≡◌, ◌+◌, [], ◌∷◌, length, nat_le, true, arith}
 use Rattle.std.proofs.lemmas.Bool.{le-leb}
 use Rattle.slot_spec.specs.Layout.{image_place, StandsAt, GatesHold}
 use Rattle.slot_spec.specs.Rig.{Write}

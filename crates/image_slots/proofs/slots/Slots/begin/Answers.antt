@@ -1,10 +1,9 @@
-use Rattle.std.proofs.Common.{◌≡◌, ◌≢◌, ◌&&◌, ◌*◌, ◌+◌, ◌≤◌, ℕ, inl, inr, true, false, [], ◌∷◌, replicate, length, refl, sym, ap, ◌∙◌, arith}
+use Rattle.std.proofs.Common.{◌≡◌, ◌≢◌, inl, inr, true, false, [], replicate, length, refl, sym, ap, ◌∙◌, arith}
 use Rattle.std.proofs.lemmas.Bool.{not-true, not-false}
 use Rattle.std.proofs.lemmas.Bool.Decides.{nat_tests}
 use Rattle.slot_spec.specs.declared.SlotHeader.{SlotHeader}
 use Rattle.slot_spec.specs.declared.DiskHeader.{DiskHeader}
 use Rattle.slot_spec.specs.Layout.{gate_place, version, StandsAt, GatesHold}
-use Rattle.slot_spec.specs.Rig.{Write, Sync}
 use Rattle.slot_spec.specs.Header.{slot_header, shut_header}
 use Rattle.slot_laws.proofs.Moments.{moments_none, length_kept}
 use Rattle.slot_laws.proofs.Gate.{begin_same, begin_written, begin_moments, room_kept, shows_slot_at, open_known, gate_inside}
@@ -12,7 +11,7 @@ use Rattle.slot_laws.proofs.Calls.{none_left}
 use Rattle.slot_laws.proofs.Outcomes.{begin_left, begin_left_gates}
 use Rattle.slot_laws.proofs.Rigs.{rig_shows, rig_stands}
 use Rattle.image_slots.specs.State.{Mounted}
-use Rattle.image_slots.specs.Answers.{begin_tests, begin_calls}
+use Rattle.image_slots.specs.Answers.{begin_tests}
 use Rattle.image_slots.proofs.Tests.{and_false, begin_used, begin_size}
 use Rattle.image_slots.proofs.slots.Slots.begin.Goals.{then-size-eq0-via-then-size-eq0, then-size-eq0-via-else-size-eq0+then-size-room}
 use Rattle.image_slots.proofs.slots.Slots.begin.Goals as goal
@@ -120,8 +119,12 @@ returns-in-Ok-clause-outcome g c = rw (← c.slots.view_is) (λ r s is settled.
     let tests : begin_tests c.args.slot c.args.size h ≡ true = grind (arith, nat_tests) in
     let shows = rig_shows g.D.Disk.seen g.D.Disk.may_leave g.D.Disk.rig g.met.D.Disk.rig_reads g.met.D.Disk.cut_counts c.slots.inside.disk h s r is settled in
     let stands = rig_stands g.D.Disk.seen g.D.Disk.may_leave g.D.Disk.rig g.met.D.Disk.rig_reads g.met.D.Disk.cut_counts c.slots.inside.disk h s r is settled in
-    rw (c.empty_download-in-Ok.ensures.disk, tests, opened) (_, (c.in-Ok.ensures.rig r is).0, begin_left h.room c.args.slot s r c.requires.slot (λ e. c.if-slot-slots.false (e ∙ sym settled.shows.committed_is)) stands
-    (λ pick. open_known c.args.slot (slot_header c.args.slot h) _ (r.cut pick) (shows_slot_at c.args.slot h s (r.cut pick) c.requires.slot (shows.cuts pick)) opened)))
+    rw (c.empty_download-in-Ok.ensures.disk, tests, opened) (
+      _,
+      (c.in-Ok.ensures.rig r is).0,
+      begin_left h.room c.args.slot s r c.requires.slot (λ e. c.if-slot-slots.false (e ∙ sym settled.shows.committed_is)) stands
+          (λ pick. open_known c.args.slot (slot_header c.args.slot h) _ (r.cut pick) (shows_slot_at c.args.slot h s (r.cut pick) c.requires.slot (shows.cuts pick)) opened),
+    ))
 
 pub returns-in-Ok-clause-gates : goal.returns-in-Ok-clause-gates
 returns-in-Ok-clause-gates g c = rw (← c.slots.view_is) (λ r s is settled gates.
@@ -130,8 +133,12 @@ returns-in-Ok-clause-gates g c = rw (← c.slots.view_is) (λ r s is settled gat
     let tests : begin_tests c.args.slot c.args.size h ≡ true = grind (arith, nat_tests) in
     let shows = rig_shows g.D.Disk.seen g.D.Disk.may_leave g.D.Disk.rig g.met.D.Disk.rig_reads g.met.D.Disk.cut_counts c.slots.inside.disk h s r is settled in
     let stands = rig_stands g.D.Disk.seen g.D.Disk.may_leave g.D.Disk.rig g.met.D.Disk.rig_reads g.met.D.Disk.cut_counts c.slots.inside.disk h s r is settled in
-    rw (c.empty_download-in-Ok.ensures.disk, tests, opened) (_, (c.in-Ok.ensures.rig r is).0, begin_left_gates h.room c.args.slot s r c.requires.slot (λ e. c.if-slot-slots.false (e ∙ sym settled.shows.committed_is)) stands
-    (λ pick. open_known c.args.slot (slot_header c.args.slot h) _ (r.cut pick) (shows_slot_at c.args.slot h s (r.cut pick) c.requires.slot (shows.cuts pick)) opened) gates))
+    rw (c.empty_download-in-Ok.ensures.disk, tests, opened) (
+      _,
+      (c.in-Ok.ensures.rig r is).0,
+      begin_left_gates h.room c.args.slot s r c.requires.slot (λ e. c.if-slot-slots.false (e ∙ sym settled.shows.committed_is)) stands
+          (λ pick. open_known c.args.slot (slot_header c.args.slot h) _ (r.cut pick) (shows_slot_at c.args.slot h s (r.cut pick) c.requires.slot (shows.cuts pick)) opened) gates,
+    ))
 
 pub returns-in-Ok-clause-length : goal.returns-in-Ok-clause-length
 returns-in-Ok-clause-length g c = rw (← c.slots.view_is) (λ s size settled long.
@@ -152,8 +159,12 @@ returns-in-Err-clause-outcome g c = rw (← c.slots.view_is) (λ r s is settled.
     let tests : begin_tests c.args.slot c.args.size h ≡ true = grind (arith, nat_tests) in
     let shows = rig_shows g.D.Disk.seen g.D.Disk.may_leave g.D.Disk.rig g.met.D.Disk.rig_reads g.met.D.Disk.cut_counts c.slots.inside.disk h s r is settled in
     let stands = rig_stands g.D.Disk.seen g.D.Disk.may_leave g.D.Disk.rig g.met.D.Disk.rig_reads g.met.D.Disk.cut_counts c.slots.inside.disk h s r is settled in
-    rw (tests, opened) (_, (c.in-Err.ensures.rig r is).0, begin_left h.room c.args.slot s r c.requires.slot (λ e. c.if-slot-slots.false (e ∙ sym settled.shows.committed_is)) stands
-    (λ pick. open_known c.args.slot (slot_header c.args.slot h) _ (r.cut pick) (shows_slot_at c.args.slot h s (r.cut pick) c.requires.slot (shows.cuts pick)) opened)))
+    rw (tests, opened) (
+      _,
+      (c.in-Err.ensures.rig r is).0,
+      begin_left h.room c.args.slot s r c.requires.slot (λ e. c.if-slot-slots.false (e ∙ sym settled.shows.committed_is)) stands
+          (λ pick. open_known c.args.slot (slot_header c.args.slot h) _ (r.cut pick) (shows_slot_at c.args.slot h s (r.cut pick) c.requires.slot (shows.cuts pick)) opened),
+    ))
 
 pub returns-in-Err-clause-gates : goal.returns-in-Err-clause-gates
 returns-in-Err-clause-gates g c = rw (← c.slots.view_is) (λ r s is settled gates.
@@ -162,8 +173,12 @@ returns-in-Err-clause-gates g c = rw (← c.slots.view_is) (λ r s is settled ga
     let tests : begin_tests c.args.slot c.args.size h ≡ true = grind (arith, nat_tests) in
     let shows = rig_shows g.D.Disk.seen g.D.Disk.may_leave g.D.Disk.rig g.met.D.Disk.rig_reads g.met.D.Disk.cut_counts c.slots.inside.disk h s r is settled in
     let stands = rig_stands g.D.Disk.seen g.D.Disk.may_leave g.D.Disk.rig g.met.D.Disk.rig_reads g.met.D.Disk.cut_counts c.slots.inside.disk h s r is settled in
-    rw (tests, opened) (_, (c.in-Err.ensures.rig r is).0, begin_left_gates h.room c.args.slot s r c.requires.slot (λ e. c.if-slot-slots.false (e ∙ sym settled.shows.committed_is)) stands
-    (λ pick. open_known c.args.slot (slot_header c.args.slot h) _ (r.cut pick) (shows_slot_at c.args.slot h s (r.cut pick) c.requires.slot (shows.cuts pick)) opened) gates))
+    rw (tests, opened) (
+      _,
+      (c.in-Err.ensures.rig r is).0,
+      begin_left_gates h.room c.args.slot s r c.requires.slot (λ e. c.if-slot-slots.false (e ∙ sym settled.shows.committed_is)) stands
+          (λ pick. open_known c.args.slot (slot_header c.args.slot h) _ (r.cut pick) (shows_slot_at c.args.slot h s (r.cut pick) c.requires.slot (shows.cuts pick)) opened) gates,
+    ))
 
 pub returns-in-Err-clause-length : goal.returns-in-Err-clause-length
 returns-in-Err-clause-length g c = rw (← c.slots.view_is) (λ s size settled long.

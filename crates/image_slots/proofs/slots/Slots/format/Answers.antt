@@ -26,6 +26,9 @@ returns-in-Ok-clause-outcome g c = λ r is.
     let reads = g.met.D.Disk.rig_reads c.args.disk r is in
     let first : c.version_after-version.result ≡ version image = whole_version c.version_after-version.result image c.version_after-version.ensures.version in
     let entered : c.entry_bytes-entry.result ≡ entry image = entry_is c.entry_bytes-entry.result (length image) c.crc_of-crc.result c.version_after-version.result image c.entry_bytes-entry.ensures.bytes refl c.crc_of-crc.ensures.value first in
-    let settled = formatted_settled g.D.Disk.seen g.D.Disk.may_leave c.lay_out.new.disk c.args.room image r.bytes c.entry_bytes-entry.result (c.requires.some, c.requires.small) (omega arith, omega arith) entered (c.in-Ok.ensures.formatted r.bytes reads) in
-    (clear.0, clear.1, formatted_leaves _ image r clear.0 refl clear.2
-    (rig_shows g.D.Disk.seen g.D.Disk.may_leave g.D.Disk.rig g.met.D.Disk.rig_reads g.met.D.Disk.cut_counts c.lay_out.new.disk _ (formatted_slots image) clear.0 clear.1 settled))
+    let settled = formatted_settled g.D.Disk.seen g.D.Disk.may_leave c.lay_out.new.disk c.args.room image r.bytes c.entry_bytes-entry.result (c.requires.some, c.requires.small) (omega arith, omega arith) entered (c.in-Ok.ensures.formatted r.bytes reads) in (
+      clear.0,
+      clear.1,
+      formatted_leaves _ image r clear.0 refl clear.2
+          (rig_shows g.D.Disk.seen g.D.Disk.may_leave g.D.Disk.rig g.met.D.Disk.rig_reads g.met.D.Disk.cut_counts c.lay_out.new.disk _ (formatted_slots image) clear.0 clear.1 settled),
+    )
