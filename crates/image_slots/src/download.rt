@@ -42,7 +42,7 @@ impl<D: Disk> Model for Download<D> {
 
     ghost view = { λ s. record { disk = s.disk; header = s.header; target = s.target; size = s.size; have = s.have; crc = s.crc; version = s.version } };
 
-    ghost invariant = { λ s. s.target < 2 };
+    ghost invariant = { λ s. record { target : s.target < 2; committed : s.header.committed < 2 } };
 }
 
 /// Why a piece was not put.
@@ -109,6 +109,7 @@ impl<D: Disk> Download<D> {
     /// The committed slot, 0 or 1.
     pub fn committed(&self) -> u8
         ensures committed { result ≡ self.now.header.committed }
+        ensures slot { result < 2 }
     {
         self.header.committed
     }

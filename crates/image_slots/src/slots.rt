@@ -28,11 +28,14 @@ pub struct Slots<D: Disk> {
 }
 
 impl<D: Disk> Model for Slots<D> {
+    ghost use Rattle.std.specs.Prelude.{◌<◌};
     ghost use Rattle.image_slots.specs.State.{Mounted};
 
     ghost Value = { Mounted D };
 
     ghost view = { λ s. record { disk = s.disk; header = s.header } };
+
+    ghost invariant = { λ s. s.header.committed < 2 };
 }
 
 /// A disk of which a call failed: what stands there is settled by the next mount.
@@ -90,6 +93,7 @@ impl<D: Disk> Slots<D> {
     /// The committed slot, 0 or 1.
     pub fn committed(&self) -> u8
         ensures committed { result ≡ self.now.header.committed }
+        ensures slot { result < 2 }
     {
         self.header.committed
     }

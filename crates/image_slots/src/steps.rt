@@ -108,6 +108,7 @@ pub fn slot_header(header: &DiskHeader, slot: u8) -> SlotHeader
 pub fn set_slot_header(header: &mut DiskHeader, slot: u8, new: SlotHeader)
     requires slot { slot < 2 }
     ensures header { header.new ≡ with_slot_header slot new header.old }
+    ensures committed { header.new.committed ≡ header.old.committed }
 {
     if slot == 0 {
         header.first = new;

@@ -1,9 +1,10 @@
 //! Each device call of a begin, a put, a seal and a commit is cut, with each pick: the disk mounts
 //! afterwards, and its committed image is one of the two that it may be.
 
-use crate::harness::{CHECK, SECOND, formatted, loaded, mounted, sealed, unwanted};
+use crate::harness::{CHECK, FIRST, FIRST_CHECK, ROOM, SECOND, formatted, loaded, mounted, sealed, unwanted};
 use image_slots::{BeginRefusal, CommitRefusal, PutRefusal, SealRefusal, Slots};
-use slot_disk::{MemDisk, Pick};
+use slot_disk::{Disk, MemDisk, Pick, Trap};
+use slot_spec::HEADER_BYTES;
 use std::test::Fail;
 
 /// A request to a disk of slots.
@@ -27,7 +28,7 @@ fn cut_in(rt: &HostRuntime, request: Request, call: u64, pick: Pick) -> Result<M
     match request {
         Request::Begin => {
             let mut slots = sealed(alloc)?;
-            slots.rig(slot_disk::Trap::Fuse { call, pick });
+            slots.rig(Trap::Fuse { call, pick });
             match slots.begin(1, 2) {
                 Ok(download) => Ok(download.unmount()),
                 Err(BeginRefusal::Fault { broken }) => Ok(broken.unmount()),
@@ -38,7 +39,7 @@ fn cut_in(rt: &HostRuntime, request: Request, call: u64, pick: Pick) -> Result<M
             let Ok(mut download) = formatted(alloc)?.begin(1, 2) else {
                 return Err(unwanted());
             };
-            download.rig(slot_disk::Trap::Fuse { call, pick });
+            download.rig(Trap::Fuse { call, pick });
             match download.put(&SECOND) {
                 Ok(download) => Ok(download.unmount()),
                 Err(PutRefusal::Fault { broken }) => Ok(broken.unmount()),
@@ -47,7 +48,7 @@ fn cut_in(rt: &HostRuntime, request: Request, call: u64, pick: Pick) -> Result<M
         }
         Request::Seal => {
             let mut download = loaded(formatted(alloc)?)?;
-            download.rig(slot_disk::Trap::Fuse { call, pick });
+            download.rig(Trap::Fuse { call, pick });
             match download.seal(CHECK, 2) {
                 Ok(slots) => Ok(slots.unmount()),
                 Err(SealRefusal::Fault { broken }) => Ok(broken.unmount()),
@@ -56,7 +57,7 @@ fn cut_in(rt: &HostRuntime, request: Request, call: u64, pick: Pick) -> Result<M
         }
         Request::Commit => {
             let mut slots = sealed(alloc)?;
-            slots.rig(slot_disk::Trap::Fuse { call, pick });
+            slots.rig(Trap::Fuse { call, pick });
             match slots.commit(1) {
                 Ok(slots) => Ok(slots.unmount()),
                 Err(CommitRefusal::Fault { broken }) => Ok(broken.unmount()),
@@ -66,16 +67,22 @@ fn cut_in(rt: &HostRuntime, request: Request, call: u64, pick: Pick) -> Result<M
     }
 }
 
-/// Whether the disk's committed image is the first one in slot 0 or, after a commit, the second one
-/// in slot 1.
-fn boots(slots: &Slots<MemDisk>, request: Request) -> bool {
-    let Some(view) = slots.view(slots.committed()) else {
+/// Whether the disk's committed image is, byte for byte, the first one in slot 0 or, after a commit,
+/// the second one in slot 1.
+fn boots(slots: Slots<MemDisk>, request: Request) -> bool {
+    let committed = slots.committed();
+    let Some(view) = slots.view(committed) else {
         return false;
     };
-    match slots.committed() {
-        0 => view.length == 1 && view.crc == 0xff,
-        _ => matches!(request, Request::Commit) && view.length == 2 && view.crc == CHECK,
+    let place = HEADER_BYTES + u64::from(ROOM) * u64::from(committed);
+    let mut bytes = [0; 2];
+    if slots.unmount().read_at(place, &mut bytes).is_err() {
+        return false;
     }
+    if committed == 0 {
+        return view.length == 1 && view.crc == FIRST_CHECK && bytes[..1] == FIRST[..];
+    }
+    matches!(request, Request::Commit) && view.length == 2 && view.crc == CHECK && bytes == SECOND
 }
 
 /// The cut is made, the power comes back, and the disk is mounted.
@@ -83,7 +90,7 @@ fn holds(rt: &HostRuntime, request: Request, call: u64, pick: Pick) -> Result<bo
     let mut disk = cut_in(rt, request, call, pick)?;
     disk.restore();
     disk.disarm();
-    Ok(boots(&mounted(disk)?, request))
+    Ok(boots(mounted(disk)?, request))
 }
 
 #[test]

@@ -24,14 +24,14 @@ pub returns-in-Ok-clause-moments : goal.returns-in-Ok-clause-moments
 returns-in-Ok-clause-moments g c = rw (← c.download.view_is) (λ s put filling loaded.
     let d = c.download.inside in
     let moments = rw (c.image_at.ensures.place, c.from-2.ensures, loaded.have) at c.write_at.ensures.moments in
-    put_moments g.D.Disk.seen g.D.Disk.may_leave g.D.Disk.clock g.D.Disk.left_since d.disk c.write_at.new.self d.header d.target s put (length c.args.piece.now) c.download.invariant filling (omega (arith, loaded.have, loaded.fits)) moments)
+    put_moments g.D.Disk.seen g.D.Disk.may_leave g.D.Disk.clock g.D.Disk.left_since d.disk c.write_at.new.self d.header d.target s put (length c.args.piece.now) c.download.invariant.target filling (omega (arith, loaded.have, loaded.fits)) moments)
 
 pub returns-in-Ok-clause-filling : goal.returns-in-Ok-clause-filling
 returns-in-Ok-clause-filling g c = rw (← c.download.view_is) (λ s put filling loaded.
     let d = c.download.inside in
     let moments = rw (c.image_at.ensures.place, c.from-2.ensures, loaded.have) at c.write_at.ensures.moments in
     let written = rw (c.image_at.ensures.place, c.from-2.ensures, loaded.have) at (c.in-Ok.ensures.written filling.settled.bytes filling.settled.reads) in
-    put_filling g.D.Disk.seen g.D.Disk.may_leave d.disk c.write_at.new.self d.header d.target s put c.args.piece.now written.0 c.download.invariant filling (omega (arith, loaded.have, loaded.fits)) written.1 written.2 moments.now)
+    put_filling g.D.Disk.seen g.D.Disk.may_leave d.disk c.write_at.new.self d.header d.target s put c.args.piece.now written.0 c.download.invariant.target filling (omega (arith, loaded.have, loaded.fits)) written.1 written.2 moments.now)
 
 pub returns-in-Ok-clause-rig : goal.returns-in-Ok-clause-rig
 returns-in-Ok-clause-rig g c = rw (← c.download.view_is) (λ r is.
@@ -45,14 +45,14 @@ returns-in-Ok-clause-outcome g c = rw (← c.download.view_is) (λ r s put is fi
     let d = c.download.inside in
     let shows = rig_shows g.D.Disk.seen g.D.Disk.may_leave g.D.Disk.rig g.met.D.Disk.rig_reads g.met.D.Disk.cut_counts d.disk d.header s r is filling.settled in
     let made = (rw (c.image_at.ensures.place, c.from-2.ensures) at c.in-Ok.ensures.rig) r is in
-    (_, made.0, put_left d.header d.target s r c.download.invariant filling.shut filling.other shows d.have c.args.piece.now (omega (arith, loaded.fits))))
+    (_, made.0, put_left d.header d.target s r c.download.invariant.target filling.shut filling.other shows d.have c.args.piece.now (omega (arith, loaded.fits))))
 
 pub returns-in-Ok-clause-gates : goal.returns-in-Ok-clause-gates
 returns-in-Ok-clause-gates g c = rw (← c.download.view_is) (λ r s put is filling loaded gates.
     let d = c.download.inside in
     let shows = rig_shows g.D.Disk.seen g.D.Disk.may_leave g.D.Disk.rig g.met.D.Disk.rig_reads g.met.D.Disk.cut_counts d.disk d.header s r is filling.settled in
     let made = (rw (c.image_at.ensures.place, c.from-2.ensures) at c.in-Ok.ensures.rig) r is in
-    (_, made.0, put_left_gates d.header d.target s r c.download.invariant filling.shut filling.other shows d.have c.args.piece.now (omega (arith, loaded.fits)) gates))
+    (_, made.0, put_left_gates d.header d.target s r c.download.invariant.target filling.shut filling.other shows d.have c.args.piece.now (omega (arith, loaded.fits)) gates))
 
 pub returns-in-Ok-clause-length : goal.returns-in-Ok-clause-length
 returns-in-Ok-clause-length g c = rw (← c.download.view_is) (λ s put size filling loaded long.
@@ -61,13 +61,13 @@ returns-in-Ok-clause-length g c = rw (← c.download.view_is) (λ s put size fil
     let same : length settled.bytes ≡ size = long settled.bytes (g.met.D.Disk.leaves_seen d.disk settled.bytes settled.reads) in
     let moments = rw (c.image_at.ensures.place, c.from-2.ensures) at c.write_at.ensures.moments in
     length_kept g.D.Disk.may_leave d.disk c.write_at.new.self (image_place d.header.room d.target + d.have) (length c.args.piece.now) size
-    (piece_inside d.header d.target c.download.invariant d.have c.args.piece.now (omega (arith, loaded.fits)) size (omega (arith, same, settled.shows.stands.long))) long moments.now)
+    (piece_inside d.header d.target c.download.invariant.target d.have c.args.piece.now (omega (arith, loaded.fits)) size (omega (arith, same, settled.shows.stands.long))) long moments.now)
 
 pub returns-in-Err-clause-moments : goal.returns-in-Err-clause-moments
 returns-in-Err-clause-moments g c = rw (← c.download.view_is) (λ s put filling loaded.
     let d = c.download.inside in
     let moments = rw (c.image_at.ensures.place, c.from-2.ensures, loaded.have) at c.write_at.ensures.moments in
-    put_moments g.D.Disk.seen g.D.Disk.may_leave g.D.Disk.clock g.D.Disk.left_since d.disk c.write_at.new.self d.header d.target s put (length c.args.piece.now) c.download.invariant filling (omega (arith, loaded.have, loaded.fits)) moments)
+    put_moments g.D.Disk.seen g.D.Disk.may_leave g.D.Disk.clock g.D.Disk.left_since d.disk c.write_at.new.self d.header d.target s put (length c.args.piece.now) c.download.invariant.target filling (omega (arith, loaded.have, loaded.fits)) moments)
 
 pub returns-in-Err-clause-rig : goal.returns-in-Err-clause-rig
 returns-in-Err-clause-rig g c = rw (← c.download.view_is) (λ r is.
@@ -81,14 +81,14 @@ returns-in-Err-clause-outcome g c = rw (← c.download.view_is) (λ r s put is f
     let d = c.download.inside in
     let shows = rig_shows g.D.Disk.seen g.D.Disk.may_leave g.D.Disk.rig g.met.D.Disk.rig_reads g.met.D.Disk.cut_counts d.disk d.header s r is filling.settled in
     let made = (rw (c.image_at.ensures.place, c.from-2.ensures) at c.in-Err.ensures.rig) r is in
-    (_, made.0, put_left d.header d.target s r c.download.invariant filling.shut filling.other shows d.have c.args.piece.now (omega (arith, loaded.fits))))
+    (_, made.0, put_left d.header d.target s r c.download.invariant.target filling.shut filling.other shows d.have c.args.piece.now (omega (arith, loaded.fits))))
 
 pub returns-in-Err-clause-gates : goal.returns-in-Err-clause-gates
 returns-in-Err-clause-gates g c = rw (← c.download.view_is) (λ r s put is filling loaded gates.
     let d = c.download.inside in
     let shows = rig_shows g.D.Disk.seen g.D.Disk.may_leave g.D.Disk.rig g.met.D.Disk.rig_reads g.met.D.Disk.cut_counts d.disk d.header s r is filling.settled in
     let made = (rw (c.image_at.ensures.place, c.from-2.ensures) at c.in-Err.ensures.rig) r is in
-    (_, made.0, put_left_gates d.header d.target s r c.download.invariant filling.shut filling.other shows d.have c.args.piece.now (omega (arith, loaded.fits)) gates))
+    (_, made.0, put_left_gates d.header d.target s r c.download.invariant.target filling.shut filling.other shows d.have c.args.piece.now (omega (arith, loaded.fits)) gates))
 
 pub returns-in-Err-clause-length : goal.returns-in-Err-clause-length
 returns-in-Err-clause-length g c = rw (← c.download.view_is) (λ s put size filling loaded long.
@@ -97,4 +97,4 @@ returns-in-Err-clause-length g c = rw (← c.download.view_is) (λ s put size fi
     let same : length settled.bytes ≡ size = long settled.bytes (g.met.D.Disk.leaves_seen d.disk settled.bytes settled.reads) in
     let moments = rw (c.image_at.ensures.place, c.from-2.ensures) at c.write_at.ensures.moments in
     length_kept g.D.Disk.may_leave d.disk c.write_at.new.self (image_place d.header.room d.target + d.have) (length c.args.piece.now) size
-    (piece_inside d.header d.target c.download.invariant d.have c.args.piece.now (omega (arith, loaded.fits)) size (omega (arith, same, settled.shows.stands.long))) long moments.now)
+    (piece_inside d.header d.target c.download.invariant.target d.have c.args.piece.now (omega (arith, loaded.fits)) size (omega (arith, same, settled.shows.stands.long))) long moments.now)

@@ -65,11 +65,11 @@ returns-in-Ok-clause-moments g c = rw (← c.download.view_is) (λ s put filling
     let check : c.args.crc ≡ crc put = sym computed ∙ loaded.check in
     let tests : seal_tests c.args.crc c.args.size d.have d.size d.crc ≡ true = grind (arith, nat_tests) in
     let is : c.entry_bytes-entry.result ≡ entry put = entry_is c.entry_bytes-entry.result c.args.size c.args.crc d.version put c.entry_bytes-entry.ensures.bytes (omega (arith, loaded.have)) check loaded.version_is in
-    let before = entry_moments g.D.Disk.seen g.D.Disk.may_leave g.D.Disk.clock g.D.Disk.left_since d.disk c.store_entry.new.disk d.header d.target s put c.download.invariant filling c.store_entry.ensures.moments in
+    let before = entry_moments g.D.Disk.seen g.D.Disk.may_leave g.D.Disk.clock g.D.Disk.left_since d.disk c.store_entry.new.disk d.header d.target s put c.download.invariant.target filling c.store_entry.ensures.moments in
     let stored = rw is at (c.in-Ok.ensures.written filling.settled.bytes filling.settled.reads) in
     let some : 1 ≤ length put = omega (arith, loaded.have, loaded.some) in
-    let e = entered g.D.Disk.seen g.D.Disk.may_leave d.disk c.store_entry.new.disk d.header d.target s put c.download.invariant some filling stored in
-    rw tests (seal_moments g.D.Disk.seen g.D.Disk.may_leave g.D.Disk.clock g.D.Disk.left_since d.disk c.store_entry.new.disk _ d.header d.target s put c.download.invariant e before c.open.ensures.moments))
+    let e = entered g.D.Disk.seen g.D.Disk.may_leave d.disk c.store_entry.new.disk d.header d.target s put c.download.invariant.target some filling stored in
+    rw tests (seal_moments g.D.Disk.seen g.D.Disk.may_leave g.D.Disk.clock g.D.Disk.left_since d.disk c.store_entry.new.disk _ d.header d.target s put c.download.invariant.target e before c.open.ensures.moments))
 
 pub returns-in-Ok-clause-settled : goal.returns-in-Ok-clause-settled
 returns-in-Ok-clause-settled g c = rw (← c.download.view_is) (λ s put filling loaded.
@@ -79,11 +79,11 @@ returns-in-Ok-clause-settled g c = rw (← c.download.view_is) (λ s put filling
     let is : c.entry_bytes-entry.result ≡ entry put = entry_is c.entry_bytes-entry.result c.args.size c.args.crc d.version put c.entry_bytes-entry.ensures.bytes size check loaded.version_is in
     let stored = rw is at (c.in-Ok.ensures.written filling.settled.bytes filling.settled.reads) in
     let some : 1 ≤ length put = omega (arith, loaded.have, loaded.some) in
-    let e = entered g.D.Disk.seen g.D.Disk.may_leave d.disk c.store_entry.new.disk d.header d.target s put c.download.invariant some filling stored in
+    let e = entered g.D.Disk.seen g.D.Disk.may_leave d.disk c.store_entry.new.disk d.header d.target s put c.download.invariant.target some filling stored in
     let header = rw (size, check, loaded.version_is) at c.open.ensures.header in
     IfOk-both c.open.result _ _ _ (c.open.ensures.stored e.now e.reads) header (λ slots stored is.
     subst (λ h. Settled g.D.Disk.seen g.D.Disk.may_leave slots.disk h (with_image d.target (Some put) s)) (sym is)
-    (seal_settled g.D.Disk.seen g.D.Disk.may_leave c.store_entry.new.disk slots.disk d.header d.target s put c.download.invariant e stored)))
+    (seal_settled g.D.Disk.seen g.D.Disk.may_leave c.store_entry.new.disk slots.disk d.header d.target s put c.download.invariant.target e stored)))
 
 pub returns-in-Ok-clause-rig : goal.returns-in-Ok-clause-rig
 returns-in-Ok-clause-rig g c = rw (← c.download.view_is) (
@@ -105,7 +105,7 @@ returns-in-Ok-clause-outcome g c = rw (← c.download.view_is) (λ r s put is fi
     let some : 1 ≤ length put = omega (arith, loaded.have, loaded.some) in
     let shows = rig_shows g.D.Disk.seen g.D.Disk.may_leave g.D.Disk.rig g.met.D.Disk.rig_reads g.met.D.Disk.cut_counts d.disk d.header s r is filling.settled in
     let there = subst (λ b. field (image_place d.header.room d.target) (length put) b ≡ put) (bytes_are g.D.Disk.seen g.D.Disk.may_leave g.D.Disk.rig g.met.D.Disk.rig_reads g.met.D.Disk.cut_counts d.disk d.header s r is filling.settled) filling.stands_there in
-    rw tests (_, made.0, seal_left d.header d.target s put r c.download.invariant filling.shut filling.other shows some filling.fits there))
+    rw tests (_, made.0, seal_left d.header d.target s put r c.download.invariant.target filling.shut filling.other shows some filling.fits there))
 
 pub returns-in-Ok-clause-gates : goal.returns-in-Ok-clause-gates
 returns-in-Ok-clause-gates g c = rw (← c.download.view_is) (λ r s put is filling loaded gates.
@@ -119,7 +119,7 @@ returns-in-Ok-clause-gates g c = rw (← c.download.view_is) (λ r s put is fill
     let some : 1 ≤ length put = omega (arith, loaded.have, loaded.some) in
     let shows = rig_shows g.D.Disk.seen g.D.Disk.may_leave g.D.Disk.rig g.met.D.Disk.rig_reads g.met.D.Disk.cut_counts d.disk d.header s r is filling.settled in
     let there = subst (λ b. field (image_place d.header.room d.target) (length put) b ≡ put) (bytes_are g.D.Disk.seen g.D.Disk.may_leave g.D.Disk.rig g.met.D.Disk.rig_reads g.met.D.Disk.cut_counts d.disk d.header s r is filling.settled) filling.stands_there in
-    rw tests (_, made.0, seal_left_gates d.header d.target s put r c.download.invariant filling.shut filling.other shows some filling.fits there gates))
+    rw tests (_, made.0, seal_left_gates d.header d.target s put r c.download.invariant.target filling.shut filling.other shows some filling.fits there gates))
 
 pub returns-in-Ok-clause-length : goal.returns-in-Ok-clause-length
 returns-in-Ok-clause-length g c = rw (← c.download.view_is) (λ s put size filling long.
@@ -135,7 +135,7 @@ returns-in-Err-clause-moments g c = rw (← c.download.view_is) (λ s put fillin
     let d = c.download.inside in
     let computed : d.crc ≡ c.args.crc = sym c.value-computed.ensures.value ∙ c.if-computed-crc.false in
     let tests : seal_tests c.args.crc c.args.size d.have d.size d.crc ≡ true = grind (arith, nat_tests) in
-    rw tests (entry_moments g.D.Disk.seen g.D.Disk.may_leave g.D.Disk.clock g.D.Disk.left_since d.disk c.store_entry.new.disk d.header d.target s put c.download.invariant filling c.store_entry.ensures.moments))
+    rw tests (entry_moments g.D.Disk.seen g.D.Disk.may_leave g.D.Disk.clock g.D.Disk.left_since d.disk c.store_entry.new.disk d.header d.target s put c.download.invariant.target filling c.store_entry.ensures.moments))
 
 pub returns-in-Err-clause-rig : goal.returns-in-Err-clause-rig
 returns-in-Err-clause-rig g c = rw (← c.download.view_is) (
@@ -157,7 +157,7 @@ returns-in-Err-clause-outcome g c = rw (← c.download.view_is) (λ r s put is f
     let some : 1 ≤ length put = omega (arith, loaded.have, loaded.some) in
     let shows = rig_shows g.D.Disk.seen g.D.Disk.may_leave g.D.Disk.rig g.met.D.Disk.rig_reads g.met.D.Disk.cut_counts d.disk d.header s r is filling.settled in
     let there = subst (λ b. field (image_place d.header.room d.target) (length put) b ≡ put) (bytes_are g.D.Disk.seen g.D.Disk.may_leave g.D.Disk.rig g.met.D.Disk.rig_reads g.met.D.Disk.cut_counts d.disk d.header s r is filling.settled) filling.stands_there in
-    rw tests (_, made.0, seal_left d.header d.target s put r c.download.invariant filling.shut filling.other shows some filling.fits there))
+    rw tests (_, made.0, seal_left d.header d.target s put r c.download.invariant.target filling.shut filling.other shows some filling.fits there))
 
 pub returns-in-Err-clause-gates : goal.returns-in-Err-clause-gates
 returns-in-Err-clause-gates g c = rw (← c.download.view_is) (λ r s put is filling loaded gates.
@@ -171,7 +171,7 @@ returns-in-Err-clause-gates g c = rw (← c.download.view_is) (λ r s put is fil
     let some : 1 ≤ length put = omega (arith, loaded.have, loaded.some) in
     let shows = rig_shows g.D.Disk.seen g.D.Disk.may_leave g.D.Disk.rig g.met.D.Disk.rig_reads g.met.D.Disk.cut_counts d.disk d.header s r is filling.settled in
     let there = subst (λ b. field (image_place d.header.room d.target) (length put) b ≡ put) (bytes_are g.D.Disk.seen g.D.Disk.may_leave g.D.Disk.rig g.met.D.Disk.rig_reads g.met.D.Disk.cut_counts d.disk d.header s r is filling.settled) filling.stands_there in
-    rw tests (_, made.0, seal_left_gates d.header d.target s put r c.download.invariant filling.shut filling.other shows some filling.fits there gates))
+    rw tests (_, made.0, seal_left_gates d.header d.target s put r c.download.invariant.target filling.shut filling.other shows some filling.fits there gates))
 
 pub returns-in-Err-clause-length : goal.returns-in-Err-clause-length
 returns-in-Err-clause-length g c = rw (← c.download.view_is) (λ s put size filling long.
