@@ -1,10 +1,16 @@
 //! Each device call of a begin, a put, a seal and a commit is cut, with each pick: the disk mounts
 //! afterwards, and its committed image is one of the two that it may be.
 
-use crate::harness::{CHECK, FIRST, FIRST_CHECK, ROOM, SECOND, formatted, loaded, mounted, sealed, unwanted};
+ghost use Rattle.std.specs.Prelude.{◌≤◌};
+ghost use Rattle.slot_spec.specs.Rig.{IsTrap};
+
+use crate::harness::{
+    CHECK, FIRST, FIRST_CHECK, ROOM, SECOND, formatted, loaded, mounted, sealed, unwanted,
+};
 use image_slots::{BeginRefusal, CommitRefusal, PutRefusal, SealRefusal, Slots};
 use slot_disk::{Disk, MemDisk, Pick, Trap};
 use slot_spec::HEADER_BYTES;
+use std::alloc::Global;
 use std::test::Fail;
 
 /// A request to a disk of slots.
@@ -21,49 +27,70 @@ const REQUESTS: [Request; 4] = [Request::Begin, Request::Put, Request::Seal, Req
 /// A seal makes four device calls, and no request makes more; a cut at the fifth is none.
 const CALLS: u64 = 5;
 
-/// The disk that the request finds, with a cut at this device call of it; then the request, and the
-/// disk that it leaves.
-fn cut_in(rt: &HostRuntime, request: Request, call: u64, pick: Pick) -> Result<MemDisk, Fail> {
-    let alloc = rt.alloc();
+/// The disk that a begin over an open gate leaves, with this trap.
+fn begin_over(alloc: Global, trap: Trap) -> Result<MemDisk, Fail>
+    requires trap { IsTrap trap }
+{
+    let mut slots = sealed(alloc)?;
+    slots.rig(trap);
+    match slots.begin(1, 2) {
+        Ok(download) => Ok(download.unmount()),
+        Err(BeginRefusal::Fault { broken }) => Ok(broken.unmount()),
+        Err(_) => Err(unwanted()),
+    }
+}
+
+/// The disk that a put of the whole image leaves, with this trap.
+fn put_over(alloc: Global, trap: Trap) -> Result<MemDisk, Fail>
+    requires trap { IsTrap trap }
+{
+    let Ok(mut download) = formatted(alloc)?.begin(1, 2) else {
+        return Err(unwanted());
+    };
+    download.rig(trap);
+    match download.put(&SECOND) {
+        Ok(download) => Ok(download.unmount()),
+        Err(PutRefusal::Fault { broken }) => Ok(broken.unmount()),
+        Err(_) => Err(unwanted()),
+    }
+}
+
+/// The disk that a seal leaves, with this trap.
+fn seal_over(alloc: Global, trap: Trap) -> Result<MemDisk, Fail>
+    requires trap { IsTrap trap }
+{
+    let mut download = loaded(formatted(alloc)?)?;
+    download.rig(trap);
+    match download.seal(CHECK, 2) {
+        Ok(slots) => Ok(slots.unmount()),
+        Err(SealRefusal::Fault { broken }) => Ok(broken.unmount()),
+        Err(_) => Err(unwanted()),
+    }
+}
+
+/// The disk that a commit of slot 1 leaves, with this trap.
+fn commit_over(alloc: Global, trap: Trap) -> Result<MemDisk, Fail>
+    requires trap { IsTrap trap }
+{
+    let mut slots = sealed(alloc)?;
+    slots.rig(trap);
+    match slots.commit(1) {
+        Ok(slots) => Ok(slots.unmount()),
+        Err(CommitRefusal::Fault { broken }) => Ok(broken.unmount()),
+        Err(_) => Err(unwanted()),
+    }
+}
+
+/// The disk that a request leaves whose device call of this number is cut.
+fn cut_in(alloc: Global, request: Request, call: u64, pick: Pick) -> Result<MemDisk, Fail>
+    requires counted { 1 ≤ call }
+{
+    let trap = Trap::Fuse { call, pick };
     match request {
-        Request::Begin => {
-            let mut slots = sealed(alloc)?;
-            slots.rig(Trap::Fuse { call, pick });
-            match slots.begin(1, 2) {
-                Ok(download) => Ok(download.unmount()),
-                Err(BeginRefusal::Fault { broken }) => Ok(broken.unmount()),
-                Err(_) => Err(unwanted()),
-            }
-        }
-        Request::Put => {
-            let Ok(mut download) = formatted(alloc)?.begin(1, 2) else {
-                return Err(unwanted());
-            };
-            download.rig(Trap::Fuse { call, pick });
-            match download.put(&SECOND) {
-                Ok(download) => Ok(download.unmount()),
-                Err(PutRefusal::Fault { broken }) => Ok(broken.unmount()),
-                Err(_) => Err(unwanted()),
-            }
-        }
-        Request::Seal => {
-            let mut download = loaded(formatted(alloc)?)?;
-            download.rig(Trap::Fuse { call, pick });
-            match download.seal(CHECK, 2) {
-                Ok(slots) => Ok(slots.unmount()),
-                Err(SealRefusal::Fault { broken }) => Ok(broken.unmount()),
-                Err(_) => Err(unwanted()),
-            }
-        }
-        Request::Commit => {
-            let mut slots = sealed(alloc)?;
-            slots.rig(Trap::Fuse { call, pick });
-            match slots.commit(1) {
-                Ok(slots) => Ok(slots.unmount()),
-                Err(CommitRefusal::Fault { broken }) => Ok(broken.unmount()),
-                Err(_) => Err(unwanted()),
-            }
-        }
+        Request::Begin => begin_over(alloc, trap),
+        Request::Put => put_over(alloc, trap),
+        Request::Seal => seal_over(alloc, trap),
+        Request::Commit => commit_over(alloc, trap),
     }
 }
 
@@ -86,8 +113,10 @@ fn boots(slots: Slots<MemDisk>, request: Request) -> bool {
 }
 
 /// The cut is made, the power comes back, and the disk is mounted.
-fn holds(rt: &HostRuntime, request: Request, call: u64, pick: Pick) -> Result<bool, Fail> {
-    let mut disk = cut_in(rt, request, call, pick)?;
+fn holds(alloc: Global, request: Request, call: u64, pick: Pick) -> Result<bool, Fail>
+    requires counted { 1 ≤ call }
+{
+    let mut disk = cut_in(alloc, request, call, pick)?;
     disk.restore();
     disk.disarm();
     Ok(boots(mounted(disk)?, request))
@@ -95,12 +124,13 @@ fn holds(rt: &HostRuntime, request: Request, call: u64, pick: Pick) -> Result<bo
 
 #[test]
 fn each_cut_leaves_a_committed_image(rt: HostRuntime) -> Result<(), Fail> {
+    let alloc = rt.alloc();
     for request in REQUESTS {
         for call in 1..=CALLS {
-            assert!(rt; holds(&rt, request, call, Pick::Old)?);
-            assert!(rt; holds(&rt, request, call, Pick::New)?);
+            assert!(rt; holds(alloc, request, call, Pick::Old)?);
+            assert!(rt; holds(alloc, request, call, Pick::New)?);
             for byte in 0..=255 {
-                assert!(rt; holds(&rt, request, call, Pick::Byte(byte))?);
+                assert!(rt; holds(alloc, request, call, Pick::Byte(byte))?);
             }
         }
     }
