@@ -7,12 +7,12 @@ use Rattle.slot_spec.specs.declared.Trap.TheVariants.{Clear}
 use Rattle.slot_spec.specs.declared.DiskHeader.{DiskHeader}
 use Rattle.slot_spec.specs.Crash.{field, Torn, Written}
 use Rattle.slot_spec.specs.Layout.{magic, entry, IsLength, IsOpen, GatesHold, version}
-use Rattle.slot_spec.specs.Rig.{Rigged, Call, Read, Write, Sync, call_fails, after_call, trap_after, after_calls, Makes, RigHolds}
+use Rattle.slot_spec.specs.Rig.{Rigged, Call, Read, Write, Sync, call_fails, after_call, trap_after, after_calls, calls_fail, Makes, RigHolds}
 use Rattle.slot_spec.specs.Header.{view_of}
 use Rattle.slot_spec.specs.Owner.{Shows, Settled}
 use Rattle.slot_laws.proofs.Fields.{field_kept, get_or-field}
 use Rattle.slot_laws.proofs.Commit.{settled_by}
-use Rattle.image_slots.specs.Formats.{FormattedBody, Formatted, FormattedDisk, FormatLeaves, StaysClear, formatted_slots}
+use Rattle.image_slots.specs.Formats.{FormattedBody, Formatted, FormattedDisk, FormatLeaves, formatted_slots}
 
 -- these bytes stand at a place
 pub record At (place : ℕ) (bytes disk : List ℕ) : Type 0 where
@@ -192,7 +192,7 @@ clear_call (Read at count) r clear = ap trap_after clear
 clear_call (Write at new) r clear = ap trap_after clear
 clear_call Sync r clear = ap trap_after clear
 
-clear_calls : (calls : List Call) (r : Rigged) → r.trap ≡ Clear → (after_calls calls r).trap ≡ Clear
+pub clear_calls : (calls : List Call) (r : Rigged) → r.trap ≡ Clear → (after_calls calls r).trap ≡ Clear
 unfolding after_calls
 clear_calls [] r clear = clear
 clear_calls (call ∷ calls) r clear = elim (cases_Bool (call_fails call r)) [
@@ -200,8 +200,7 @@ clear_calls (call ∷ calls) r clear = elim (cases_Bool (call_fails call r)) [
   | inr goes ↦ ap (λ (b : Bool). (if b then after_call call r else after_calls calls (after_call call r)).trap) goes ∙ clear_calls calls (after_call call r) (clear_call call r clear)
 ]
 
-pub clear_makes : (calls : List Call) (old new : Option Rigged) (failed : Bool) → Makes calls old new failed → StaysClear old new
-clear_makes calls old new failed makes = λ r is. (after_calls calls r, (makes r is).0, clear_calls calls r)
-
-pub clear_then : (a b c : Option Rigged) → StaysClear a b → StaysClear b c → StaysClear a c
-clear_then a b c first second = λ r is. let f = first r is in let s = second f.0 f.1 in (s.0, s.1, λ clear. s.2 (f.2 clear))
+-- where no call is made
+pub makes-none : (rig : Option Rigged) → Makes [] rig rig false
+unfolding after_calls calls_fail
+makes-none rig = λ r is. (is, refl)

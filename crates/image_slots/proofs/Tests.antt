@@ -21,3 +21,7 @@ seal_size check given have size computed (inr differs) = rw (ne_eqb given have d
 
 pub seal_check : (check given have size computed : ℕ) → computed ≢ check → seal_tests check given have size computed ≡ false
 seal_check check given have size computed differs = rw (ne_eqb computed check differs) (and_false (have == size && given == have))
+
+pub format_size : (size room : ℕ) → (size ≡ 0) ⊎ (room < size) → (nat_le 1 size && nat_le size room) ≡ false
+format_size size room (inl none) = rw (lt-leb 1 size (omega (arith, none))) refl
+format_size size room (inr past) = rw (lt-leb size room past) (and_false (nat_le 1 size))

@@ -1,5 +1,5 @@
 -- What a format leaves on a disk.
-use Rattle.std.specs.Prelude.{◌≡◌, ℕ, ◌+◌, ◌*◌, ◌≤◌, ◌<◌, ◌⊎◌, max, Bool, true, false, Option, Some, None, List, [], ◌∷◌, length, Result, Ok, Err}
+use Rattle.std.specs.Prelude.{◌≡◌, ℕ, ◌+◌, ◌*◌, ◌≤◌, ◌<◌, ◌⊎◌, max, Bool, true, false, ◌&&◌, nat_le, if◌then◌else◌, ◌-◌, ◌++◌, replicate, Option, Some, None, List, [], ◌∷◌, length, Result, Ok, Err}
 use Rattle.std.specs.Int.{to_be_bytes, w32}
 use Rattle.slot_spec.specs.declared.Trap.TheVariants.{Clear}
 use Rattle.slot_spec.specs.declared.TheConstants.{ROOM_PLACE, CLOSED_GATE, ENTRY_BYTES, HEADER_BYTES}
@@ -8,8 +8,8 @@ use Rattle.image_slots.specs.declared.format.FormatRefusal.{FormatRefusal}
 use Rattle.image_slots.specs.declared.format.FormatRefusal.TheVariants.{Size, Fault}
 use Rattle.slot_spec.specs.Crash.{field}
 use Rattle.slot_spec.specs.Slots.{SlotPair}
-use Rattle.slot_spec.specs.Layout.{magic, commit_place, gate_place, entry_place, image_place, open_gate, StandsAt, GatesHold}
-use Rattle.slot_spec.specs.Rig.{Rigged, RigHolds}
+use Rattle.slot_spec.specs.Layout.{magic, commit_place, gate_place, entry_place, image_place, open_gate, entry, StandsAt, GatesHold}
+use Rattle.slot_spec.specs.Rig.{Rigged, RigHolds, Call, Write, Sync}
 
 -- the image is in slot 0, which is committed, and slot 1 has none
 abbrev pub formatted_slots : List ℕ → SlotPair
@@ -55,9 +55,19 @@ abbrev pub FormatRefused : {D : Type 0} → D → ℕ → ℕ → FormatRefusal 
 FormatRefused before space asked (Size disk size room) = (disk ≡ before) × (size ≡ asked) × (room ≡ space) × ((asked ≡ 0) ⊎ (space < asked))
 FormatRefused before space asked (Fault disk) = (1 ≤ asked) × (asked ≤ space)
 
--- where no trap was set, none is set afterwards
-abbrev pub StaysClear : Option Rigged → Option Rigged → Type 0
-StaysClear old new = (r : Rigged) → old ≡ Some r → (after : Rigged) × (new ≡ Some after) × (r.trap ≡ Clear → after.trap ≡ Clear)
+-- the writes behind the magic
+abbrev pub body_calls : ℕ → List ℕ → List ℕ → List Call
+body_calls room entry_of image =
+    Write ROOM_PLACE (to_be_bytes w32 room) ∷ Write commit_place (0 ∷ []) ∷ Write (gate_place 0) (open_gate ∷ []) ∷ Write (gate_place 1) (CLOSED_GATE ∷ []) ∷ Write (entry_place 0) entry_of
+    ∷ Write (image_place room 0) image ∷ Write (HEADER_BYTES + 2 * room - 1) (0 ∷ []) ∷ []
+
+-- the magic is taken away, and stands again last
+abbrev pub layout_calls : ℕ → List ℕ → List ℕ → List Call
+layout_calls room entry_of image = (Write 0 (replicate 8 0) ∷ Sync ∷ []) ++ (body_calls room entry_of image ++ ((Sync ∷ []) ++ (Write 0 magic ∷ Sync ∷ [])))
+
+-- an image that doesn't fit makes no device call
+abbrev pub format_calls : ℕ → List ℕ → List Call
+format_calls room image = if nat_le 1 (length image) && nat_le (length image) room then layout_calls room (entry image) image else []
 
 -- over a rig: what the disk reads as and what a cut with each pick would leave stand for the slots,
 -- each open gate has an image, and where there was no trap there is none

@@ -1,5 +1,7 @@
 use Rattle.std.proofs.Common.{◌∙◌}
-use Rattle.image_slots.proofs.Formatting.{formatted_after, clear_makes, clear_then}
+use Rattle.std.proofs.lemmas.Result.{err_from_is_err_and}
+use Rattle.slot_laws.proofs.Calls.{makes-then, makes-stopped}
+use Rattle.image_slots.proofs.Formatting.{formatted_after}
 use Rattle.image_slots.proofs.format.lay_out.Goals as goal
 
 pub returns-clause-formatted : goal.returns-clause-formatted
@@ -14,8 +16,17 @@ returns-clause-formatted g c = λ was told.
       only = stored.only;
     }
 
-pub returns-clause-clear : goal.returns-clause-clear
-returns-clause-clear g c =
-    clear_then _ _ _ (clear_makes _ _ _ _ c.write_through.ensures.rig)
-    (clear_then _ _ _ c.in_ok-write_body.ensures.clear
-    (clear_then _ _ _ (clear_makes _ _ _ _ c.sync.ensures.rig) (clear_makes _ _ _ _ c.write_through-2.ensures.rig)))
+pub returns-clause-rig : goal.returns-clause-rig
+returns-clause-rig g c = makes-then _ _ _ _ _ _ c.in_ok-write_through.ensures.rig (makes-then _ _ _ _ _ _ c.in_ok-write_body.ensures.rig (makes-then _ _ _ _ _ _ c.in_ok-sync.ensures.rig c.in_ok-write_through-2.ensures.rig))
+
+pub returns-in_err-write_through-clause-rig : goal.returns-in_err-write_through-clause-rig
+returns-in_err-write_through-clause-rig g c = rw (err_from_is_err_and c.from_residual.result c.from_residual.ensures.1).1 (makes-stopped _ _ _ _ c.in_err-write_through.ensures.rig)
+
+pub returns-in_err-write_body-clause-rig : goal.returns-in_err-write_body-clause-rig
+returns-in_err-write_body-clause-rig g c = rw (err_from_is_err_and c.from_residual-in_err-write_body.result c.from_residual-in_err-write_body.ensures.1).1 (makes-then _ _ _ _ _ _ c.in_ok-write_through.ensures.rig (makes-stopped _ _ _ _ c.in_err-write_body.ensures.rig))
+
+pub returns-in_err-sync-clause-rig : goal.returns-in_err-sync-clause-rig
+returns-in_err-sync-clause-rig g c = rw (err_from_is_err_and c.from_residual-in_err-sync.result c.from_residual-in_err-sync.ensures.1).1 (makes-then _ _ _ _ _ _ c.in_ok-write_through.ensures.rig (makes-then _ _ _ _ _ _ c.in_ok-write_body.ensures.rig (makes-stopped _ _ _ _ c.in_err-sync.ensures.rig)))
+
+pub returns-in_err-write_through-2-clause-rig : goal.returns-in_err-write_through-2-clause-rig
+returns-in_err-write_through-2-clause-rig g c = rw (err_from_is_err_and c.from_residual-in_err-write_through-2.result c.from_residual-in_err-write_through-2.ensures.1).1 (makes-then _ _ _ _ _ _ c.in_ok-write_through.ensures.rig (makes-then _ _ _ _ _ _ c.in_ok-write_body.ensures.rig (makes-then _ _ _ _ _ _ c.in_ok-sync.ensures.rig c.in_err-write_through-2.ensures.rig)))
