@@ -5,7 +5,8 @@ ghost use Rattle.std.specs.Prelude.{◌≤◌};
 ghost use Rattle.slot_spec.specs.Rig.{IsTrap};
 
 use crate::harness::{
-    CHECK, FIRST, FIRST_CHECK, ROOM, SECOND, formatted, loaded, mounted, sealed, unwanted,
+    CHECK, FIRST, FIRST_CHECK, ROOM, SECOND, formatted_slots, loaded_download, mount_disk,
+    sealed_slots, unwanted_answer,
 };
 use image_slots::{BeginRefusal, CommitRefusal, PutRefusal, SealRefusal, Slots};
 use slot_disk::{Disk, MemDisk, Pick, Trap};
@@ -31,12 +32,12 @@ const CALLS: u64 = 5;
 fn begin_over(alloc: Global, trap: Trap) -> Result<MemDisk, Fail>
     requires trap { IsTrap trap }
 {
-    let mut slots = sealed(alloc)?;
+    let mut slots = sealed_slots(alloc)?;
     slots.rig(trap);
     match slots.begin(1, 2) {
         Ok(download) => Ok(download.unmount()),
         Err(BeginRefusal::Fault { broken }) => Ok(broken.unmount()),
-        Err(_) => Err(unwanted()),
+        Err(_) => Err(unwanted_answer()),
     }
 }
 
@@ -44,14 +45,14 @@ fn begin_over(alloc: Global, trap: Trap) -> Result<MemDisk, Fail>
 fn put_over(alloc: Global, trap: Trap) -> Result<MemDisk, Fail>
     requires trap { IsTrap trap }
 {
-    let Ok(mut download) = formatted(alloc)?.begin(1, 2) else {
-        return Err(unwanted());
+    let Ok(mut download) = formatted_slots(alloc)?.begin(1, 2) else {
+        return Err(unwanted_answer());
     };
     download.rig(trap);
     match download.put(&SECOND) {
         Ok(download) => Ok(download.unmount()),
         Err(PutRefusal::Fault { broken }) => Ok(broken.unmount()),
-        Err(_) => Err(unwanted()),
+        Err(_) => Err(unwanted_answer()),
     }
 }
 
@@ -59,12 +60,12 @@ fn put_over(alloc: Global, trap: Trap) -> Result<MemDisk, Fail>
 fn seal_over(alloc: Global, trap: Trap) -> Result<MemDisk, Fail>
     requires trap { IsTrap trap }
 {
-    let mut download = loaded(formatted(alloc)?)?;
+    let mut download = loaded_download(formatted_slots(alloc)?)?;
     download.rig(trap);
     match download.seal(CHECK, 2) {
         Ok(slots) => Ok(slots.unmount()),
         Err(SealRefusal::Fault { broken }) => Ok(broken.unmount()),
-        Err(_) => Err(unwanted()),
+        Err(_) => Err(unwanted_answer()),
     }
 }
 
@@ -72,12 +73,12 @@ fn seal_over(alloc: Global, trap: Trap) -> Result<MemDisk, Fail>
 fn commit_over(alloc: Global, trap: Trap) -> Result<MemDisk, Fail>
     requires trap { IsTrap trap }
 {
-    let mut slots = sealed(alloc)?;
+    let mut slots = sealed_slots(alloc)?;
     slots.rig(trap);
     match slots.commit(1) {
         Ok(slots) => Ok(slots.unmount()),
         Err(CommitRefusal::Fault { broken }) => Ok(broken.unmount()),
-        Err(_) => Err(unwanted()),
+        Err(_) => Err(unwanted_answer()),
     }
 }
 
@@ -119,7 +120,7 @@ fn holds(alloc: Global, request: Request, call: u64, pick: Pick) -> Result<bool,
     let mut disk = cut_in(alloc, request, call, pick)?;
     disk.restore();
     disk.disarm();
-    Ok(boots(mounted(disk)?, request))
+    Ok(boots(mount_disk(disk)?, request))
 }
 
 #[test]

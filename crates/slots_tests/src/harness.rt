@@ -20,43 +20,43 @@ pub const SECOND: [u8; 2] = [0xff, 0xff];
 pub const CHECK: u32 = 0x0000_ffff;
 
 /// The answer isn't the one that is wanted.
-pub fn unwanted() -> Fail {
+pub fn unwanted_answer() -> Fail {
     Fail::new("another answer is wanted")
 }
 
 /// A disk that was formatted with the first image.
-pub fn formatted(alloc: Global) -> Result<Slots<MemDisk>, Fail> {
+pub fn formatted_slots(alloc: Global) -> Result<Slots<MemDisk>, Fail> {
     let disk = MemDisk::new(alloc, LENGTH)?;
     let Ok(slots) = Slots::format(disk, ROOM, &FIRST) else {
-        return Err(unwanted());
+        return Err(unwanted_answer());
     };
     Ok(slots)
 }
 
 /// The same with a download into slot 1 that has the whole second image.
-pub fn loaded(slots: Slots<MemDisk>) -> Result<Download<MemDisk>, Fail> {
+pub fn loaded_download(slots: Slots<MemDisk>) -> Result<Download<MemDisk>, Fail> {
     let Ok(download) = slots.begin(1, 2) else {
-        return Err(unwanted());
+        return Err(unwanted_answer());
     };
     let Ok(download) = download.put(&SECOND) else {
-        return Err(unwanted());
+        return Err(unwanted_answer());
     };
     Ok(download)
 }
 
 /// The same with the second image sealed in slot 1.
-pub fn sealed(alloc: Global) -> Result<Slots<MemDisk>, Fail> {
-    let download = loaded(formatted(alloc)?)?;
+pub fn sealed_slots(alloc: Global) -> Result<Slots<MemDisk>, Fail> {
+    let download = loaded_download(formatted_slots(alloc)?)?;
     let Ok(slots) = download.seal(CHECK, 2) else {
-        return Err(unwanted());
+        return Err(unwanted_answer());
     };
     Ok(slots)
 }
 
 /// The slots of a disk, which is mounted without a fault.
-pub fn mounted(disk: MemDisk) -> Result<Slots<MemDisk>, Fail> {
+pub fn mount_disk(disk: MemDisk) -> Result<Slots<MemDisk>, Fail> {
     let Ok(slots) = Slots::mount(disk, LENGTH) else {
-        return Err(unwanted());
+        return Err(unwanted_answer());
     };
     Ok(slots)
 }

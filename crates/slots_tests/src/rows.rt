@@ -1,6 +1,9 @@
 //! The worked rows: a download with its refusals, and a cut at the commit byte.
 
-use crate::harness::{CHECK, LENGTH, ROOM, SECOND, formatted, mounted, sealed, unwanted};
+use crate::harness::{
+    CHECK, LENGTH, ROOM, SECOND, formatted_slots, loaded_download, mount_disk, sealed_slots,
+    unwanted_answer,
+};
 use image_slots::{
     BeginRefusal, CommitRefusal, FormatRefusal, MountRefusal, PutRefusal, SealRefusal, SlotView,
     Slots,
@@ -17,40 +20,35 @@ const SECOND_VIEW: SlotView = SlotView {
 
 #[test]
 fn refusals_before_a_download(rt: HostRuntime) -> Result<(), Fail> {
-    let slots = formatted(rt.alloc())?;
+    let slots = formatted_slots(rt.alloc())?;
     assert_eq!(rt; slots.room(), ROOM);
     assert_eq!(rt; slots.committed(), 0);
     assert_eq!(rt; slots.view(1), None);
     let Err(BeginRefusal::InUse { slots }) = slots.begin(0, 2) else {
-        return Err(unwanted());
+        return Err(unwanted_answer());
     };
     let Err(BeginRefusal::Size { slots, size, room }) = slots.begin(1, 17) else {
-        return Err(unwanted());
+        return Err(unwanted_answer());
     };
     assert_eq!(rt; size, 17);
     assert_eq!(rt; room, 16);
     let Err(BeginRefusal::Size { slots, size, .. }) = slots.begin(1, 0) else {
-        return Err(unwanted());
+        return Err(unwanted_answer());
     };
     assert_eq!(rt; size, 0);
     let Err(CommitRefusal::NotValid { slots }) = slots.commit(1) else {
-        return Err(unwanted());
+        return Err(unwanted_answer());
     };
     let Ok(slots) = slots.commit(0) else {
-        return Err(unwanted());
+        return Err(unwanted_answer());
     };
     assert_eq!(rt; slots.committed(), 0);
     Ok(())
 }
 
 #[test]
-fn a_download_to_its_commit(rt: HostRuntime) -> Result<(), Fail> {
-    let Ok(download) = formatted(rt.alloc())?.begin(1, 2) else {
-        return Err(unwanted());
-    };
-    let Ok(download) = download.put(&SECOND) else {
-        return Err(unwanted());
-    };
+fn a_download_past_its_size_and_with_another_check(rt: HostRuntime) -> Result<(), Fail> {
+    let download = loaded_download(formatted_slots(rt.alloc())?)?;
     let Err(
         PutRefusal::Past {
             download,
@@ -60,7 +58,7 @@ fn a_download_to_its_commit(rt: HostRuntime) -> Result<(), Fail> {
         },
     ) = download.put(&[0xff])
     else {
-        return Err(unwanted());
+        return Err(unwanted_answer());
     };
     assert_eq!(rt; have, 2);
     assert_eq!(rt; size, 2);
@@ -73,52 +71,55 @@ fn a_download_to_its_commit(rt: HostRuntime) -> Result<(), Fail> {
         },
     ) = download.seal(0, 2)
     else {
-        return Err(unwanted());
+        return Err(unwanted_answer());
     };
     assert_eq!(rt; computed, CHECK);
     assert_eq!(rt; given, 0);
-    let Err(CommitRefusal::NotValid { slots }) = slots.commit(1) else {
-        return Err(unwanted());
+    let Err(CommitRefusal::NotValid { .. }) = slots.commit(1) else {
+        return Err(unwanted_answer());
     };
-    let Ok(download) = slots.begin(1, 2) else {
-        return Err(unwanted());
+    Ok(())
+}
+
+#[test]
+fn a_download_after_one_that_failed(rt: HostRuntime) -> Result<(), Fail> {
+    let download = loaded_download(formatted_slots(rt.alloc())?)?;
+    let Err(SealRefusal::Check { slots, .. }) = download.seal(0, 2) else {
+        return Err(unwanted_answer());
     };
-    let Ok(download) = download.put(&SECOND) else {
-        return Err(unwanted());
-    };
-    let Ok(slots) = download.seal(CHECK, 2) else {
-        return Err(unwanted());
+    let Ok(slots) = loaded_download(slots)?.seal(CHECK, 2) else {
+        return Err(unwanted_answer());
     };
     assert_eq!(rt; slots.view(1), Some(SECOND_VIEW));
     let Ok(slots) = slots.commit(1) else {
-        return Err(unwanted());
+        return Err(unwanted_answer());
     };
     assert_eq!(rt; slots.committed(), 1);
     let Err(BeginRefusal::InUse { .. }) = slots.begin(1, 2) else {
-        return Err(unwanted());
+        return Err(unwanted_answer());
     };
     Ok(())
 }
 
 #[test]
 fn a_download_that_is_short_or_given_up(rt: HostRuntime) -> Result<(), Fail> {
-    let Ok(download) = formatted(rt.alloc())?.begin(1, 3) else {
-        return Err(unwanted());
+    let Ok(download) = formatted_slots(rt.alloc())?.begin(1, 3) else {
+        return Err(unwanted_answer());
     };
     assert_eq!(rt; download.target(), 1);
     assert_eq!(rt; download.size(), 3);
     let Ok(download) = download.put(&SECOND) else {
-        return Err(unwanted());
+        return Err(unwanted_answer());
     };
     assert_eq!(rt; download.have(), 2);
     assert_eq!(rt; download.committed(), 0);
     let Err(SealRefusal::Size { slots, have, given }) = download.seal(CHECK, 3) else {
-        return Err(unwanted());
+        return Err(unwanted_answer());
     };
     assert_eq!(rt; have, 2);
     assert_eq!(rt; given, 3);
     let Ok(download) = slots.begin(1, 2) else {
-        return Err(unwanted());
+        return Err(unwanted_answer());
     };
     let slots = download.abandon();
     assert_eq!(rt; slots.view(1), None);
@@ -127,16 +128,16 @@ fn a_download_that_is_short_or_given_up(rt: HostRuntime) -> Result<(), Fail> {
 
 /// What a mount gives after a cut at the commit byte, the third device call, by its pick.
 fn committed_after(rt: &HostRuntime, pick: Pick) -> Result<u8, Fail> {
-    let mut disk = sealed(rt.alloc())?.unmount();
+    let mut disk = sealed_slots(rt.alloc())?.unmount();
     disk.fuse(3, pick);
-    let slots = mounted(disk)?;
+    let slots = mount_disk(disk)?;
     let Err(CommitRefusal::Fault { broken }) = slots.commit(1) else {
-        return Err(unwanted());
+        return Err(unwanted_answer());
     };
     let mut disk = broken.unmount();
     disk.restore();
     disk.disarm();
-    Ok(mounted(disk)?.committed())
+    Ok(mount_disk(disk)?.committed())
 }
 
 #[test]
@@ -148,7 +149,7 @@ fn a_cut_at_the_commit_byte(rt: HostRuntime) -> Result<(), Fail> {
 }
 
 #[test]
-fn disks_that_are_refused(rt: HostRuntime) -> Result<(), Fail> {
+fn a_disk_that_is_no_unit(rt: HostRuntime) -> Result<(), Fail> {
     let disk = MemDisk::new(rt.alloc(), LENGTH)?;
     let Err(
         MountRefusal::NoUnit {
@@ -159,23 +160,25 @@ fn disks_that_are_refused(rt: HostRuntime) -> Result<(), Fail> {
         },
     ) = Slots::mount(disk, LENGTH)
     else {
-        return Err(unwanted());
+        return Err(unwanted_answer());
     };
     assert_eq!(rt; length, LENGTH);
     assert_eq!(rt; magic, [0; 8]);
     assert_eq!(rt; room, 0);
     let Err(MountRefusal::NoUnit { disk, length, .. }) = Slots::mount(disk, 4095) else {
-        return Err(unwanted());
+        return Err(unwanted_answer());
     };
     assert_eq!(rt; length, 4095);
-    let Err(FormatRefusal::Size { disk, size, .. }) = Slots::format(disk, ROOM, &[0; 17]) else {
-        return Err(unwanted());
+    let Err(FormatRefusal::Size { size, .. }) = Slots::format(disk, ROOM, &[0; 17]) else {
+        return Err(unwanted_answer());
     };
     assert_eq!(rt; size, 17);
-    let Ok(slots) = Slots::format(disk, ROOM, &[0; 16]) else {
-        return Err(unwanted());
-    };
-    let mut disk = slots.unmount();
+    Ok(())
+}
+
+#[test]
+fn a_committed_slot_without_an_image(rt: HostRuntime) -> Result<(), Fail> {
+    let mut disk = formatted_slots(rt.alloc())?.unmount();
     assert!(rt; disk.write_at(1024, &[0]).is_ok());
     let Err(
         MountRefusal::NoImage {
@@ -186,13 +189,13 @@ fn disks_that_are_refused(rt: HostRuntime) -> Result<(), Fail> {
         },
     ) = Slots::mount(disk, LENGTH)
     else {
-        return Err(unwanted());
+        return Err(unwanted_answer());
     };
     assert_eq!(rt; slot, 0);
     assert_eq!(rt; gate, 0);
-    assert_eq!(rt; size, 16);
+    assert_eq!(rt; size, 1);
     let Err(MountRefusal::NoUnit { room, .. }) = Slots::mount(disk, LENGTH - 1) else {
-        return Err(unwanted());
+        return Err(unwanted_answer());
     };
     assert_eq!(rt; room, ROOM);
     Ok(())
