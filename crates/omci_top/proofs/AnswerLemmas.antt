@@ -7,6 +7,7 @@ use Rattle.script_spec.specs.Fault.{fault}
 use Rattle.script_spec.specs.Reading.{reading}
 use Rattle.script_laws.proofs.Scripts.{reading-Writes, reading_range}
 use Rattle.world_spec.specs.Trace.{trace}
+use Rattle.tci_spec.specs.Tci.{IsNumber}
 use Rattle.history_spec.specs.History.{Once, Answered}
 use Rattle.world_spec.specs.History.{history_of}
 use Rattle.world_laws.proofs.Runs.{history_once, history_answered}
@@ -51,8 +52,8 @@ acts_once : (script : Script) (input : List ℕ) → Writes script input → Onc
 acts_once script input spelled =
     let ranges = reading_range input script (reading-Writes script input spelled) in
     let header = ranges.header in
-    let low = record { some = header.low_some; most = header.low_most } in
-    let high = record { some = header.high_some; most = header.high_most } in
+    let low : IsNumber script.header.low = record { some = header.low_some; most = header.low_most } in
+    let high : IsNumber script.header.high = record { some = header.high_some; most = header.high_most } in
     (history_once script.header script.actions low high ranges.actions, history_answered script.header script.actions low high ranges.actions)
 
 -- so the answer says of source and sink what it has to say

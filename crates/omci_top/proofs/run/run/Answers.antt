@@ -32,11 +32,11 @@ returns-in_err-write_all-clause-front g c =
     let broken = c.in_err-write_all.ensures.broken in
     rw p.1 (run_ends_early c.args.script.now c.loop-place.world c.loop-place.lines (g.K.Sink.written c.args.sink.now) (g.K.Sink.written c.loop-place.sink) (g.K.Sink.written c.write_all.new.sink)
     (subst (λ k. RunSoFar c.args.script.now k c.loop-place.world c.loop-place.lines (g.K.Sink.written c.args.sink.now) (g.K.Sink.written c.loop-place.sink)) all c.loop-place.invariant.0)
-    (broken.done, (broken.rest, sym broken.parts ∙ c.deref.ensures.value), broken.added))
+    (broken.done, (broken.rest, sym broken.parts ∙ c.bytes.ensures.value), broken.added))
 
 pub returns-clause-traced : goal.returns-clause-traced
 returns-clause-traced g c =
     let all : c.loop-place.place ≡ length c.args.script.now.actions = omega (arith, c.len-place-end.ensures.value) in
     run_ends c.args.script.now c.loop-place.world c.loop-place.lines (g.K.Sink.written c.args.sink.now) (g.K.Sink.written c.loop-place.sink) (g.K.Sink.written c.write_all.new.sink)
     (subst (λ k. RunSoFar c.args.script.now k c.loop-place.world c.loop-place.lines (g.K.Sink.written c.args.sink.now) (g.K.Sink.written c.loop-place.sink)) all c.loop-place.invariant.0)
-    (subst (λ text. Appends (g.K.Sink.written c.loop-place.sink) (g.K.Sink.written c.write_all.new.sink) text) c.deref.ensures.value c.in_ok-write_all.ensures.whole)
+    (subst (λ text. Appends (g.K.Sink.written c.loop-place.sink) (g.K.Sink.written c.write_all.new.sink) text) c.bytes.ensures.value c.in_ok-write_all.ensures.whole)

@@ -1,0 +1,4 @@
+pub mod Results
+pub mod Tests
+pub mod Formatting
+pub mod Mounting

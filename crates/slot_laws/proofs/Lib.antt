@@ -1,0 +1,16 @@
+pub mod Splice
+pub mod Fields
+pub mod Moments
+pub mod Version
+pub mod Kept
+pub mod Commit
+pub mod Gate
+pub mod Fill
+pub mod Header
+pub mod Calls
+pub mod Gates
+pub mod Outcomes
+pub mod Rigs
+pub mod Either
+pub mod Once
+pub mod Rows
