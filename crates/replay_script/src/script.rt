@@ -1,3 +1,5 @@
+//! What a script says: its header and its events.
+
 ghost use Rattle.std.specs.Prelude.{◌≡◌, ◌==◌, ◌<◌, Some, length, slice_get};
 ghost use Rattle.std.specs.List.{All};
 ghost use Rattle.script_spec.specs.Script.{IsHeader, IsAction, IsScript};
