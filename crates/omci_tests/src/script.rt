@@ -1,7 +1,7 @@
-//! Reading scripts: every kind of line, every kind of fault, and the ends of lines.
+//! Reading and printing scripts: every kind of line, every kind of fault, and the ends of lines.
 
 use omci_core::{Bytes, EntityId, Priority};
-use replay_script::{Event, Script, ScriptRefusal, read};
+use replay_script::{Event, Script, ScriptRefusal, print, read};
 use std::alloc::{AllocError, Global};
 use std::test::*;
 
@@ -330,5 +330,32 @@ fn noise_has_at_most_4096_bytes(rt: HostRuntime) -> Result<(), Fail> {
     assert_eq!(rt; refusal_of(alloc, &text)?, (0, 0));
     text.extend_from_slice(b"00")?;
     assert_eq!(rt; refusal_of(alloc, &text)?, (2, 3));
+    Ok(())
+}
+
+#[test]
+fn scripts_are_printed(rt: HostRuntime) -> Result<(), Fail> {
+    let alloc = rt.alloc();
+    let commands = print(alloc, &read(alloc, COMMANDS.as_bytes())?)?;
+    let wanted = "omci 1 16 1 32767 00ff0a\n\
+probe low\n\
+get low 2 0 8000\n\
+create low 272 5 0030ab\n\
+set high 272 65535 c00f -\n\
+delete low 272 5\n\
+reset high\n";
+    assert_eq!(rt; commands.as_slice(), wanted.as_bytes());
+    let others = print(alloc, &read(alloc, OTHERS.as_bytes())?)?;
+    let wanted = "omci 1 16 1 1 00\n\
+deliver 7\n\
+flow 65536\n\
+noise unit 00014a\n\
+noise olt -\n\
+tick\n\
+cut unit\n\
+cut olt\n\
+start unit\n\
+start olt 1 32767\n";
+    assert_eq!(rt; others.as_slice(), wanted.as_bytes());
     Ok(())
 }

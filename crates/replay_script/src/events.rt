@@ -1,3 +1,5 @@
+//! The event of each kind of line, by the words after its name.
+
 ghost use Rattle.std.specs.Prelude.{◌≡◌};
 ghost use Rattle.script_spec.specs.Reading.{action_at, line_action};
 ghost use Rattle.replay_script.specs.Answers.{Gives};

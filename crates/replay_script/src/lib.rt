@@ -4,11 +4,13 @@
 
 mod events;
 mod lines;
+mod printing;
 mod reading;
 mod refusal;
 mod script;
 mod words;
 
+pub use printing::print;
 pub use reading::read;
 pub use refusal::ScriptRefusal;
 pub use script::{Event, Header, Script};

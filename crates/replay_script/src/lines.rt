@@ -1,3 +1,5 @@
+//! The lines of a script, and which of them are passed over.
+
 ghost use Rattle.std.specs.Prelude.{◌≡◌, ◌==◌, ◌<◌, ◌∷◌, length};
 ghost use Rattle.std.specs.List.{position};
 ghost use Rattle.script_spec.specs.Text.{lines_of, is_passed_over};

@@ -1,3 +1,5 @@
+//! Reading a script in one pass: the header, and then the events.
+
 ghost use Rattle.std.specs.Prelude.{◌≡◌, ◌+◌, ◌≤◌, ◌<◌, ◌^◌, ◌++◌, map, length, Option, Ok, MatchResult, IfOk, IfErr};
 ghost use Rattle.std.specs.Option.{option_to_list};
 ghost use Rattle.script_spec.specs.Script.{Action, IsScript};

@@ -1,3 +1,5 @@
+//! Why bytes, and why one line, were not read.
+
 ghost use Rattle.std.specs.Prelude.{◌≡◌};
 ghost use Rattle.replay_script.specs.declared.refusal.ScriptRefusal.TheVariants.{NoMemory};
 

@@ -1,6 +1,8 @@
+//! What a script says: its header and its events.
+
 ghost use Rattle.std.specs.Prelude.{◌≡◌, ◌==◌, ◌<◌, Some, length, slice_get};
 ghost use Rattle.std.specs.List.{All};
-ghost use Rattle.script_spec.specs.Script.{IsHeader, IsAction};
+ghost use Rattle.script_spec.specs.Script.{IsHeader, IsAction, IsScript};
 ghost use Rattle.replay_script.specs.Events.{action_of, header_of};
 
 use omci_core::{Bytes, EntityId, Priority};
@@ -123,6 +125,7 @@ impl Script {
     pub fn header(&self) -> &Header
         ensures value { header_of result.now ≡ self.now.header }
         ensures ranges { IsHeader self.now.header }
+        ensures whole { IsScript self.now }
     {
         &self.header
     }

@@ -1,3 +1,5 @@
+//! The words of a line, read one after the other.
+
 ghost use Rattle.std.specs.Prelude.{◌≡◌, ◌==◌, ◌≤◌, [], ◌∷◌, if◌then◌else◌, IfOk, length, true, Some, None};
 ghost use Rattle.std.specs.List.{AllPass, list_all, count_by};
 ghost use Rattle.std.specs.Char.{is_ascii_digit};

@@ -8,7 +8,9 @@ use Rattle.script_spec.specs.Script.{Probe, Get, Set, Flow, NoiseUnit, NoiseOlt,
 use Rattle.script_spec.specs.Text.{lines_of, words_of, decimal_value, hex_bytes, mask_of}
 use Rattle.script_spec.specs.Fault.{fault, script_fault, events_fault, line_fault, is_header}
 use Rattle.script_spec.specs.Reading.{reading, script_reading, events_reading, event_at, line_action, line_at, line_named, word_at, word_value, field_at, action_at, header_at}
-use Rattle.hex.specs.Hex.{decode_pairs}
+use Rattle.script_spec.specs.Canonical.{canonical, header_text, action_text, line_text, word_text}
+use Rattle.std.specs.Fmt.{digits}
+use Rattle.hex.specs.Hex.{decode_pairs, encode_with}
 
 abbrev line : List ℕ → List ℕ
 line text = text ++ (10 ∷ [])
@@ -94,3 +96,11 @@ broken_frame = refl
 half_byte : fault (header ++ line (codes "noise unit 0")) ≡ Some (2, 3)
 unfolding fault script_fault events_fault line_fault line_named is_header lines_of words_of decimal_value
 half_byte = refl
+
+-- zeros in front are gone, hex is in lower case, and each line has its line feed
+prints_lines : canonical (record {
+  header = record { room = 16; low = 1; high = 32767; factory = 0 ∷ 255 ∷ [] };
+  actions = Set High (record { class = 272; instance = 5 }) 32779 [] ∷ NoiseUnit (0xAB ∷ []) ∷ Tick ∷ StartOlt 7 32767 ∷ [];
+}) ≡ line (codes "omci 1 16 1 32767 00ff") ++ line (codes "set high 272 5 800b -") ++ line (codes "noise unit ab") ++ line (codes "tick") ++ line (codes "start olt 7 32767")
+unfolding canonical header_text action_text line_text word_text digits encode_with
+prints_lines = refl

@@ -1,0 +1,264 @@
+//! The canonical text of a script.
+
+ghost use Rattle.std.specs.Prelude.{◌≡◌, ◌++◌, [], ◌∷◌, OnOk, IfOk, Ok, decimal};
+ghost use Rattle.std.specs.Int.{to_be_bytes, w16};
+ghost use Rattle.hex.specs.Hex.{encode_lower};
+ghost use Rattle.script_spec.specs.Script as spec;
+ghost use Rattle.script_spec.specs.Text.{lane_text};
+ghost use Rattle.script_spec.specs.Canonical.{hex_text, action_text, header_text, canonical};
+ghost use Rattle.script_spec.specs.Reading.{reading};
+ghost use Rattle.replay_script.specs.Events.{action_of, header_of};
+
+use crate::script::{Event, Header, Script};
+use itoa::Buffer;
+use omci_core::{EntityId, NoMemory, Priority};
+use std::alloc::Global;
+
+/// The script's canonical text: no line that is passed over, numbers without zeros in front, hex in
+/// lower case, `-` for no byte, and a line feed after each line. `NoMemory` where there is no room
+/// for it.
+pub fn print(alloc: Global, script: &Script) -> Result<Vec<u8>, NoMemory>
+    ensures canonical { IfOk result (λ text. text.items ≡ canonical script.now) }
+    ensures back { IfOk result (λ text. reading text.items ≡ Ok script.now) }
+{
+    let mut text = Vec::new(alloc);
+    put_header(alloc, &mut text, script.header())?;
+    for place in 0..script.len() {
+        put_event(alloc, &mut text, script.event(place))?;
+    }
+    Ok(text)
+}
+
+/// Appends the header's line.
+#[tactic(auto, unfolding(script_spec::specs::Canonical::header_text, script_spec::specs::Canonical::line_text, script_spec::specs::Canonical::word_text))]
+fn put_header(alloc: Global, out: &mut Vec<u8>, header: &Header) -> Result<(), NoMemory>
+    ensures appended { OnOk result (out.new.items ≡ out.old.items ++ header_text (header_of header.now)) }
+{
+    put(out, b"omci 1")?;
+    put_number(out, u64::from(header.room))?;
+    put_number(out, u64::from(header.low))?;
+    put_number(out, u64::from(header.high))?;
+    put_bytes(alloc, out, header.factory.bytes())?;
+    put(out, b"\n")?;
+    Ok(())
+}
+
+/// Appends an event's line.
+#[tactic(auto, unfolding(script_spec::specs::Canonical::action_text, script_spec::specs::Canonical::line_text, script_spec::specs::Canonical::word_text))]
+fn put_event(alloc: Global, out: &mut Vec<u8>, event: &Event) -> Result<(), NoMemory>
+    ensures appended { OnOk result (out.new.items ≡ out.old.items ++ action_text (action_of event.now)) }
+{
+    match event {
+        Event::Probe { lane } => put_on_lane(out, b"probe", *lane),
+        Event::Reset { lane } => put_on_lane(out, b"reset", *lane),
+        Event::Get { lane, entity, mask } => put_get(out, *lane, *entity, *mask),
+        Event::Create {
+            lane,
+            entity,
+            values,
+        } => put_create(alloc, out, *lane, *entity, values.bytes()),
+        Event::Set {
+            lane,
+            entity,
+            mask,
+            values,
+        } => put_set(alloc, out, *lane, *entity, *mask, values.bytes()),
+        Event::Delete { lane, entity } => put_delete(out, *lane, *entity),
+        Event::Deliver { packet } => put_deliver(out, *packet),
+        Event::Flow { times } => put_flow(out, u64::from(*times)),
+        Event::NoiseUnit { bytes } => put_noise_unit(alloc, out, bytes.bytes()),
+        Event::NoiseOlt { bytes } => put_noise_olt(alloc, out, bytes.bytes()),
+        Event::Tick => put(out, b"tick\n"),
+        Event::CutUnit => put(out, b"cut unit\n"),
+        Event::CutOlt => put(out, b"cut olt\n"),
+        Event::StartUnit => put(out, b"start unit\n"),
+        Event::StartOlt { low, high } => put_start_olt(out, *low, *high),
+    }
+}
+
+/// Appends a line of a name and a lane.
+fn put_on_lane(out: &mut Vec<u8>, name: &[u8], lane: Priority) -> Result<(), NoMemory>
+    ensures appended { OnOk result (out.new.items ≡ out.old.items ++ name.now ++ 32 ∷ lane_text lane ++ 10 ∷ []) }
+{
+    put(out, name)?;
+    put_lane(out, lane)?;
+    put(out, b"\n")?;
+    Ok(())
+}
+
+/// Appends the line of a get.
+#[tactic(auto, unfolding(script_spec::specs::Canonical::action_text, script_spec::specs::Canonical::line_text, script_spec::specs::Canonical::word_text))]
+fn put_get(out: &mut Vec<u8>, lane: Priority, entity: EntityId, mask: u16) -> Result<(), NoMemory>
+    ensures appended { OnOk result (out.new.items ≡ out.old.items ++ action_text (spec.Get lane entity mask)) }
+{
+    put(out, b"get")?;
+    put_lane(out, lane)?;
+    put_number(out, u64::from(entity.class))?;
+    put_number(out, u64::from(entity.instance))?;
+    put_mask(out, mask)?;
+    put(out, b"\n")?;
+    Ok(())
+}
+
+/// Appends the line of a create.
+#[tactic(auto, unfolding(script_spec::specs::Canonical::action_text, script_spec::specs::Canonical::line_text, script_spec::specs::Canonical::word_text))]
+fn put_create(
+    alloc: Global,
+    out: &mut Vec<u8>,
+    lane: Priority,
+    entity: EntityId,
+    values: &[u8],
+) -> Result<(), NoMemory>
+    ensures appended { OnOk result (out.new.items ≡ out.old.items ++ action_text (spec.Create lane entity values.now)) }
+{
+    put(out, b"create")?;
+    put_lane(out, lane)?;
+    put_number(out, u64::from(entity.class))?;
+    put_number(out, u64::from(entity.instance))?;
+    put_bytes(alloc, out, values)?;
+    put(out, b"\n")?;
+    Ok(())
+}
+
+/// Appends the line of a set.
+#[tactic(auto, unfolding(script_spec::specs::Canonical::action_text, script_spec::specs::Canonical::line_text, script_spec::specs::Canonical::word_text))]
+fn put_set(
+    alloc: Global,
+    out: &mut Vec<u8>,
+    lane: Priority,
+    entity: EntityId,
+    mask: u16,
+    values: &[u8],
+) -> Result<(), NoMemory>
+    ensures appended { OnOk result (out.new.items ≡ out.old.items ++ action_text (spec.Set lane entity mask values.now)) }
+{
+    put(out, b"set")?;
+    put_lane(out, lane)?;
+    put_number(out, u64::from(entity.class))?;
+    put_number(out, u64::from(entity.instance))?;
+    put_mask(out, mask)?;
+    put_bytes(alloc, out, values)?;
+    put(out, b"\n")?;
+    Ok(())
+}
+
+/// Appends the line of a delete.
+#[tactic(auto, unfolding(script_spec::specs::Canonical::action_text, script_spec::specs::Canonical::line_text, script_spec::specs::Canonical::word_text))]
+fn put_delete(out: &mut Vec<u8>, lane: Priority, entity: EntityId) -> Result<(), NoMemory>
+    ensures appended { OnOk result (out.new.items ≡ out.old.items ++ action_text (spec.Delete lane entity)) }
+{
+    put(out, b"delete")?;
+    put_lane(out, lane)?;
+    put_number(out, u64::from(entity.class))?;
+    put_number(out, u64::from(entity.instance))?;
+    put(out, b"\n")?;
+    Ok(())
+}
+
+/// Appends the line of a delivery.
+#[tactic(auto, unfolding(script_spec::specs::Canonical::action_text, script_spec::specs::Canonical::line_text, script_spec::specs::Canonical::word_text))]
+fn put_deliver(out: &mut Vec<u8>, packet: u64) -> Result<(), NoMemory>
+    ensures appended { OnOk result (out.new.items ≡ out.old.items ++ action_text (spec.Deliver packet)) }
+{
+    put(out, b"deliver")?;
+    put_number(out, packet)?;
+    put(out, b"\n")?;
+    Ok(())
+}
+
+/// Appends the line of a flow.
+#[tactic(auto, unfolding(script_spec::specs::Canonical::action_text, script_spec::specs::Canonical::line_text, script_spec::specs::Canonical::word_text))]
+fn put_flow(out: &mut Vec<u8>, times: u64) -> Result<(), NoMemory>
+    ensures appended { OnOk result (out.new.items ≡ out.old.items ++ action_text (spec.Flow times)) }
+{
+    put(out, b"flow")?;
+    put_number(out, times)?;
+    put(out, b"\n")?;
+    Ok(())
+}
+
+/// Appends the line of noise at the unit.
+#[tactic(auto, unfolding(script_spec::specs::Canonical::action_text, script_spec::specs::Canonical::line_text, script_spec::specs::Canonical::word_text))]
+fn put_noise_unit(alloc: Global, out: &mut Vec<u8>, bytes: &[u8]) -> Result<(), NoMemory>
+    ensures appended { OnOk result (out.new.items ≡ out.old.items ++ action_text (spec.NoiseUnit bytes.now)) }
+{
+    put(out, b"noise unit")?;
+    put_bytes(alloc, out, bytes)?;
+    put(out, b"\n")?;
+    Ok(())
+}
+
+/// Appends the line of noise at the manager.
+#[tactic(auto, unfolding(script_spec::specs::Canonical::action_text, script_spec::specs::Canonical::line_text, script_spec::specs::Canonical::word_text))]
+fn put_noise_olt(alloc: Global, out: &mut Vec<u8>, bytes: &[u8]) -> Result<(), NoMemory>
+    ensures appended { OnOk result (out.new.items ≡ out.old.items ++ action_text (spec.NoiseOlt bytes.now)) }
+{
+    put(out, b"noise olt")?;
+    put_bytes(alloc, out, bytes)?;
+    put(out, b"\n")?;
+    Ok(())
+}
+
+/// Appends the line of a manager's start.
+#[tactic(auto, unfolding(script_spec::specs::Canonical::action_text, script_spec::specs::Canonical::line_text, script_spec::specs::Canonical::word_text))]
+fn put_start_olt(out: &mut Vec<u8>, low: u16, high: u16) -> Result<(), NoMemory>
+    ensures appended { OnOk result (out.new.items ≡ out.old.items ++ action_text (spec.StartOlt low high)) }
+{
+    put(out, b"start olt")?;
+    put_number(out, u64::from(low))?;
+    put_number(out, u64::from(high))?;
+    put(out, b"\n")?;
+    Ok(())
+}
+
+/// Appends a lane's name after a space.
+fn put_lane(out: &mut Vec<u8>, lane: Priority) -> Result<(), NoMemory>
+    ensures appended { OnOk result (out.new.items ≡ out.old.items ++ 32 ∷ lane_text lane) }
+{
+    match lane {
+        Priority::Low => put(out, b" low"),
+        Priority::High => put(out, b" high"),
+    }
+}
+
+/// Appends a number in decimal after a space.
+fn put_number(out: &mut Vec<u8>, number: u64) -> Result<(), NoMemory>
+    ensures appended { OnOk result (out.new.items ≡ out.old.items ++ 32 ∷ decimal number) }
+{
+    let mut digits = Buffer::new();
+    put(out, b" ")?;
+    put(out, digits.format(number).as_bytes())?;
+    Ok(())
+}
+
+/// Appends a mask's four hex digits after a space.
+fn put_mask(out: &mut Vec<u8>, mask: u16) -> Result<(), NoMemory>
+    ensures appended { OnOk result (out.new.items ≡ out.old.items ++ 32 ∷ encode_lower (to_be_bytes w16 mask)) }
+{
+    let mut digits = [0; 4];
+    let _fits = hex::encode_to_slice(mask.to_be_bytes().as_slice(), &mut digits);
+    put(out, b" ")?;
+    put(out, &digits)?;
+    Ok(())
+}
+
+/// Appends bytes in hex after a space, and `-` where there is none.
+fn put_bytes(alloc: Global, out: &mut Vec<u8>, bytes: &[u8]) -> Result<(), NoMemory>
+    ensures appended { OnOk result (out.new.items ≡ out.old.items ++ 32 ∷ hex_text bytes.now) }
+{
+    if bytes.is_empty() {
+        return put(out, b" -");
+    }
+    let digits = hex::encode(alloc, bytes)?;
+    put(out, b" ")?;
+    put(out, digits.as_bytes())?;
+    Ok(())
+}
+
+/// Appends bytes.
+fn put(out: &mut Vec<u8>, text: &[u8]) -> Result<(), NoMemory>
+    ensures appended { OnOk result (out.new.items ≡ out.old.items ++ text.now) }
+{
+    out.extend_from_slice(text)?;
+    Ok(())
+}
