@@ -23,7 +23,7 @@ use Rattle.world_spec.specs.Ends.{arrives, noise, second}
 use Rattle.world_spec.specs.Nodes.{delivered, flow, acted, step}
 use Rattle.world_spec.specs.Trace.{effect_text, line_text, trace_from, trace}
 use Rattle.world_spec.specs.History.{told_after}
-use Rattle.world_laws.specs.Worked.{commands_in, probe_and_get, probe_and_get_trace, unproven, unproven_trace, occupied, occupied_trace, second_change, second_change_trace, reply_again, reply_again_trace, kept_reply, kept_reply_trace, below_floor, below_floor_trace, given_up, given_up_trace, no_frames, no_frames_trace, unit_restarted, unit_restarted_trace, manager_restarted, manager_restarted_trace, created_then_read, created_then_read_trace, deleted_absent, deleted_absent_trace, set_refused, set_refused_trace, counter_set_and_reset, counter_set_and_reset_trace, number_comes_round, number_comes_round_trace}
+use Rattle.world_laws.specs.Worked.{commands_in, probe_and_get, probe_and_get_trace, unproven, unproven_trace, occupied, occupied_trace, second_change, second_change_trace, reply_again, reply_again_trace, kept_reply, kept_reply_trace, two_kept, two_kept_trace, below_floor, below_floor_trace, given_up, given_up_trace, no_frames, no_frames_trace, unit_restarted, unit_restarted_trace, manager_restarted, manager_restarted_trace, created_then_read, created_then_read_trace, deleted_absent, deleted_absent_trace, set_refused, set_refused_trace, counter_set_and_reset, counter_set_and_reset_trace, number_comes_round, number_comes_round_trace}
 
 pub record Traces : Type 0 where
   pub probe_and_get-is : trace probe_and_get ≡ probe_and_get_trace
@@ -32,6 +32,7 @@ pub record Traces : Type 0 where
   pub second_change-is : trace second_change ≡ second_change_trace
   pub reply_again-is : trace reply_again ≡ reply_again_trace
   pub kept_reply-is : trace kept_reply ≡ kept_reply_trace
+  pub two_kept-is : trace two_kept ≡ two_kept_trace
   pub below_floor-is : trace below_floor ≡ below_floor_trace
   pub given_up-is : trace given_up ≡ given_up_trace
   pub no_frames-is : trace no_frames ≡ no_frames_trace
@@ -45,7 +46,7 @@ pub record Traces : Type 0 where
 
 pub traces : Traces
 unfolding probe_and_get probe_and_get_trace unproven unproven_trace occupied occupied_trace
-    second_change second_change_trace reply_again reply_again_trace kept_reply kept_reply_trace
+    second_change second_change_trace reply_again reply_again_trace kept_reply kept_reply_trace two_kept two_kept_trace
     below_floor below_floor_trace given_up given_up_trace no_frames no_frames_trace
     unit_restarted unit_restarted_trace manager_restarted manager_restarted_trace
     created_then_read created_then_read_trace deleted_absent deleted_absent_trace
@@ -74,6 +75,7 @@ traces = record {
   second_change-is = refl;
   reply_again-is = refl;
   kept_reply-is = refl;
+  two_kept-is = refl;
   below_floor-is = refl;
   given_up-is = refl;
   no_frames-is = refl;

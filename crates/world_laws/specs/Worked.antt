@@ -127,6 +127,25 @@ kept_reply_trace =
     ++ line (codes "5 dropped")
     ++ line (codes "6 not enabled")
 
+-- each priority has a kept reply of its own
+unfoldable pub two_kept : Script
+two_kept = record {
+  header = header;
+  actions = Probe Low ∷ Probe High ∷ Deliver 0 ∷ Deliver 1 ∷ Deliver 0 ∷ [];
+}
+
+unfoldable pub two_kept_trace : List ℕ
+two_kept_trace =
+    unit_line
+    ++ line (codes "1 sent 0 down 0001 0a get 2 0 80")
+    ++ line (codes "2 sent 1 down 8001 0a get 2 0 80")
+    ++ line (codes "3 carried 1")
+    ++ line (codes "3 sent 2 up 0001 0a get-r 2 0 0080")
+    ++ line (codes "4 carried 1")
+    ++ line (codes "4 sent 3 up 8001 0a get-r 2 0 0080")
+    ++ line (codes "5 kept")
+    ++ line (codes "5 sent 4 up 0001 0a get-r 2 0 0080")
+
 -- a request and a reply below their floors
 unfoldable pub below_floor : Script
 below_floor = record {

@@ -18,7 +18,7 @@ ghost use Rattle.world_spec.specs.History.{Told, drawn_in, name_at, history_of};
 ghost use Rattle.world_spec.specs.Trace.{trace};
 ghost use Rattle.world_laws.specs.Facts.{AreReached, MayCome, MayBeCarriedOut, MayBeTaken, IsAwaited, KeepsTci};
 ghost use Rattle.world_laws.specs.Seen.{all_seen, line_of, deeds, deeds_seen};
-ghost use Rattle.world_laws.specs.Worked.{commands_in, probe_and_get, probe_and_get_trace, unproven, unproven_trace, occupied, occupied_trace, second_change, second_change_trace, reply_again, reply_again_trace, kept_reply, kept_reply_trace, below_floor, below_floor_trace, given_up, given_up_trace, no_frames, no_frames_trace, unit_restarted, unit_restarted_trace, manager_restarted, manager_restarted_trace, created_then_read, created_then_read_trace, deleted_absent, deleted_absent_trace, set_refused, set_refused_trace, counter_set_and_reset, counter_set_and_reset_trace, number_comes_round, number_comes_round_trace};
+ghost use Rattle.world_laws.specs.Worked.{commands_in, probe_and_get, probe_and_get_trace, unproven, unproven_trace, occupied, occupied_trace, second_change, second_change_trace, reply_again, reply_again_trace, kept_reply, kept_reply_trace, two_kept, two_kept_trace, below_floor, below_floor_trace, given_up, given_up_trace, no_frames, no_frames_trace, unit_restarted, unit_restarted_trace, manager_restarted, manager_restarted_trace, created_then_read, created_then_read_trace, deleted_absent, deleted_absent_trace, set_refused, set_refused_trace, counter_set_and_reset, counter_set_and_reset_trace, number_comes_round, number_comes_round_trace};
 
 /// Whatever is delivered, lost, delivered again, sent again, given up, cut off or started: no
 /// command is carried out twice in one life of the unit, and each reply that the manager takes is
@@ -91,6 +91,7 @@ pub fn worked_scripts()
     ensures second_change { trace second_change ≡ second_change_trace }
     ensures reply_again { trace reply_again ≡ reply_again_trace }
     ensures kept_reply { trace kept_reply ≡ kept_reply_trace }
+    ensures two_kept { trace two_kept ≡ two_kept_trace }
     ensures below_floor { trace below_floor ≡ below_floor_trace }
     ensures given_up { trace given_up ≡ given_up_trace }
     ensures no_frames { trace no_frames ≡ no_frames_trace }

@@ -19,6 +19,9 @@ returns-clause-reply_again c = traces.reply_again-is
 pub returns-clause-kept_reply : goal.returns-clause-kept_reply
 returns-clause-kept_reply c = traces.kept_reply-is
 
+pub returns-clause-two_kept : goal.returns-clause-two_kept
+returns-clause-two_kept c = traces.two_kept-is
+
 pub returns-clause-below_floor : goal.returns-clause-below_floor
 returns-clause-below_floor c = traces.below_floor-is
 
