@@ -188,12 +188,18 @@ fn software_images_are_rewritten(rt: HostRuntime) -> Result<(), Fail> {
 fn entities_stand_in_order(rt: HostRuntime) -> Result<(), Fail> {
     let mut mib = Mib::new(rt.alloc(), FACTORY)?;
     for instance in [5, 1, 9, 3, 7] {
-        assert_eq!(rt; mib.create(entity(84, instance), &[instance as u8; 32])?, Code::SUCCESS);
+        assert_eq!(rt;
+            mib.create(entity(84, instance), &[instance as u8; 32])?,
+            Code::SUCCESS
+        );
     }
     assert_eq!(rt; mib.delete(entity(84, 3)), Code::SUCCESS);
     assert_eq!(rt; mib.delete(entity(84, 9)), Code::SUCCESS);
     for instance in [4, 2] {
-        assert_eq!(rt; mib.create(entity(84, instance), &[instance as u8; 32])?, Code::SUCCESS);
+        assert_eq!(rt;
+            mib.create(entity(84, instance), &[instance as u8; 32])?,
+            Code::SUCCESS
+        );
     }
     for (place, instance) in [1u16, 2, 4, 5, 7].iter().enumerate() {
         assert_eq!(rt; mib.entity(7 + place), entity(84, *instance));
