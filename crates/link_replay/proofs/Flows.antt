@@ -6,14 +6,16 @@ use Rattle.unit_spec.specs.declared.Did.TheVariants as did
 use Rattle.unit_spec.specs.Onu.{Onu, onu_received}
 use Rattle.link_spec.specs.declared.Direction.{Direction}
 use Rattle.link_spec.specs.declared.Direction.TheVariants.{Down, Up}
-use Rattle.link_spec.specs.Link.{Sent, Link, allowed, fresh}
+use Rattle.link_spec.specs.Link.{Sent, Link, count, allowed, fresh}
 use Rattle.link_spec.specs.Held.{Held, held_of, held_allowed, held_fresh, held_sent}
 use Rattle.link_laws.proofs.Held.{held_of-allowed, held_of-fresh, held_of-sent, held_of-delivered, held_of-emptied}
-use Rattle.manager_spec.specs.Manager.{Manager}
+use Rattle.manager_spec.specs.declared.Refusal.{Refusal}
+use Rattle.manager_spec.specs.Manager.{Manager, Outcome, Submission}
+use Rattle.script_spec.specs.Script.{Action, Probe, Reset, Get, Create, Set, Delete, Deliver, Flow, NoiseUnit, NoiseOlt, Tick, CutUnit, CutOlt, StartUnit, StartOlt}
 use Rattle.world_spec.specs.Happenings.{Happening, UnitStarted, ManagerStarted, PacketCame, PacketSent, UnitCarried, UnitKept, UnitDropped, CommandDrawn, Reported, Refused, NotEnabled, on_link, link_read, on_held, held_read, next_after, next_after_all}
-use Rattle.world_spec.specs.Ends.{Ends, Step, still, unit_got, manager_got, arrives, arrives_at}
-use Rattle.world_spec.specs.Nodes.{Nodes, delivered_one, delivered, nodes_after_step, goes_on, flow_from, oldest_fresh, flow}
-use Rattle.world_spec.specs.Trace.{line_if, effect_of, lines_text}
+use Rattle.world_spec.specs.Ends.{Ends, Step, still, unit_got, manager_got, arrives, arrives_at, noise, second, manager_ticks, submission, submitted_as, cut_unit, cut_manager, start_unit, start_manager}
+use Rattle.world_spec.specs.Nodes.{Nodes, delivered_one, delivered, nodes_after_step, goes_on, flow_from, oldest_fresh, flow, acted, counted, step}
+use Rattle.world_spec.specs.Trace.{line_if, effect_of, lines_text, turn_text}
 use Rattle.link_replay.specs.Seen.{Seen, Shown, shown, followed, seen_of}
 
 -- ---- the readings of what happens, one part after the other
@@ -189,3 +191,107 @@ pub flow_ends : (times : ℕ) (first now : Seen) (before text : List ℕ) → Fl
 flow_ends times first now before text so_far l same =
     let at = so_far l same in
     flow_over times 0 first now before text l same at (flow_zero (nodes_of now (link_read at.happened l)))
+
+-- a delivery over what is held is the delivery over the link
+pub delivered_on_link : (number : ℕ) (w new : Seen) (before after : List ℕ) → shown new after ≡ followed (delivered_one (held_allowed number w.held) number w.ends) w before → (l : Link) → w.held ≡ held_of l → shown new after ≡ followed (delivered number (nodes_of w l)) w before
+delivered_on_link number w new before after step l same = step ∙ ap (λ s. followed s w before) (delivered_there number w l same)
+
+-- ---- a step counts its event
+
+step_submits : (call : Manager → Submission) (o : Option Manager) (e : Ends) → (submission call o e).ends.event ≡ e.event
+step_submits call None e = refl
+step_submits call (Some m) e = by (call m).refusal (call m).outcome
+  where
+    by : (r : Option Refusal) (o : Outcome) → (submitted_as r o e).ends.event ≡ e.event
+    by None o = refl
+    by (Some r) o = refl
+
+flow_event : (times : ℕ) (n : Nodes) → (flow times n).ends.event ≡ n.ends.event
+unfolding flow delivered
+flow_event zero n = refl
+flow_event (suc times) n = from (oldest_fresh n) (flow_event times)
+  where
+    from : (o : Option ℕ) → ((m : Nodes) → (flow times m).ends.event ≡ m.ends.event) → (flow_from o (flow times) n).ends.event ≡ n.ends.event
+    from None rest = refl
+    from (Some number) rest = rest (nodes_after_step (delivered number n) n) ∙ delivered_event (allowed number n.link) number n.ends
+
+noise_event : (d : Direction) (bytes : List ℕ) (e : Ends) → (noise d bytes e).ends.event ≡ e.event
+unfolding noise
+noise_event d bytes e = at d
+  where
+    by_unit : (o : Option Onu) → (unit_got [] bytes o e).ends.event ≡ e.event
+    by_unit None = refl
+    by_unit (Some u) = refl
+
+    by_manager : (o : Option Manager) → (manager_got [] bytes o e).ends.event ≡ e.event
+    by_manager None = refl
+    by_manager (Some m) = refl
+
+    at : (d : Direction) → (arrives_at d [] bytes e).ends.event ≡ e.event
+    at Down = by_unit e.unit
+    at Up = by_manager e.manager
+
+second_event : (e : Ends) → (second e).ends.event ≡ e.event
+unfolding second
+second_event e = by e.manager
+  where
+    by : (o : Option Manager) → (manager_ticks o e).ends.event ≡ e.event
+    by None = refl
+    by (Some m) = refl
+
+cut_unit_event : (o : Option Onu) (e : Ends) → (cut_unit o e).ends.event ≡ e.event
+cut_unit_event None e = refl
+cut_unit_event (Some u) e = refl
+
+cut_manager_event : (o : Option Manager) (e : Ends) → (cut_manager o e).ends.event ≡ e.event
+cut_manager_event None e = refl
+cut_manager_event (Some m) e = refl
+
+start_unit_event : (o : Option Onu) (e : Ends) → (start_unit o e).ends.event ≡ e.event
+start_unit_event None e = refl
+start_unit_event (Some u) e = refl
+
+start_manager_event : (low high : ℕ) (o : Option Manager) (e : Ends) → (start_manager low high o e).ends.event ≡ e.event
+start_manager_event low high None e = refl
+start_manager_event low high (Some m) e = refl
+
+acted_event : (a : Action) (n : Nodes) → (acted a n).ends.event ≡ n.ends.event
+unfolding acted delivered
+acted_event (Probe lane) n = step_submits _ n.ends.manager n.ends
+acted_event (Reset lane) n = step_submits _ n.ends.manager n.ends
+acted_event (Get lane entity mask) n = step_submits _ n.ends.manager n.ends
+acted_event (Create lane entity values) n = step_submits _ n.ends.manager n.ends
+acted_event (Set lane entity mask values) n = step_submits _ n.ends.manager n.ends
+acted_event (Delete lane entity) n = step_submits _ n.ends.manager n.ends
+acted_event (Deliver number) n = delivered_event (allowed number n.link) number n.ends
+acted_event (Flow times) n = flow_event times n
+acted_event (NoiseUnit bytes) n = noise_event Down bytes n.ends
+acted_event (NoiseOlt bytes) n = noise_event Up bytes n.ends
+acted_event Tick n = second_event n.ends
+acted_event CutUnit n = cut_unit_event n.ends.unit n.ends
+acted_event CutOlt n = cut_manager_event n.ends.manager n.ends
+acted_event StartUnit n = start_unit_event n.ends.unit n.ends
+acted_event (StartOlt low high) n = start_manager_event low high n.ends.manager n.ends
+
+pub step_event : (a : Action) (n : Nodes) → (step a n).nodes.ends.event ≡ n.ends.event + 1
+unfolding step
+step_event a n = acted_event a (counted n)
+
+-- the world with one line more begun
+abbrev pub counted_there : Seen → Seen
+counted_there w = record w { ends = record w.ends { event = w.ends.event + 1 } }
+
+-- the world after a line, and the text with its lines
+pub acted_nodes : (a : Action) (n : Nodes) (w new : Seen) (before after : List ℕ) → w ≡ record { ends = (counted n).ends; held = held_of n.link } → shown new after ≡ followed (acted a (nodes_of w n.link)) w before → new ≡ seen_of (step a n).nodes
+unfolding step
+acted_nodes a n w new before after same turned =
+    let at = turned ∙ ap (λ (x : Seen). followed (acted a (nodes_of x n.link)) x before) same in
+    ap (λ (x : Shown). x.seen) at
+    ∙ ap (λ h. record { ends = (acted a (counted n)).ends; held = h }) (sym (held_reads (acted a (counted n)).happenings n.link))
+
+pub acted_lines : (a : Action) (n : Nodes) (w new : Seen) (before after : List ℕ) → w ≡ record { ends = (counted n).ends; held = held_of n.link } → shown new after ≡ followed (acted a (nodes_of w n.link)) w before → after ≡ before ++ turn_text n (step a n)
+unfolding step held_of
+acted_lines a n w new before after same turned =
+    let at = turned ∙ ap (λ (x : Seen). followed (acted a (nodes_of x n.link)) x before) same in
+    ap (λ (x : Shown). x.text) at
+    ∙ ap (λ e. before ++ lines_text e (count n.link) (acted a (counted n)).happenings) (sym (acted_event a (counted n)))

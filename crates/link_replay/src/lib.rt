@@ -5,5 +5,7 @@ mod lines;
 mod machine;
 mod reports;
 mod texts;
+mod world;
 
 pub use lines::Lines;
+pub use world::World;

@@ -119,6 +119,18 @@ impl Machine {
         })
     }
 
+    /// Appends the line of the unit's present life.
+    pub fn start_line(&self, out: &mut Vec<u8>) -> Result<(), NoMemory>
+        ensures line { OnOk result (out.new.items ≡ out.old.items ++ line_text self.now.ends.event
+            (effect.UnitStarted self.now.ends.lives self.now.ends.software)) }
+    {
+        let started = Effect::UnitStarted {
+            life: self.lives,
+            software: self.software,
+        };
+        self.show(&started, out)
+    }
+
     /// Appends the line of an effect.
     fn show(&self, effect: &Effect, out: &mut Vec<u8>) -> Result<(), NoMemory>
         ensures line { OnOk result (out.new.items ≡ out.old.items ++ line_text self.now.ends.event effect.now) }
@@ -385,11 +397,7 @@ impl Machine {
         self.agent = Some(Agent::start(self.alloc, self.software)?);
         self.lives = self.lives.checked_add(1).ok_or(NoMemory)?;
         self.link.empty();
-        let started = Effect::UnitStarted {
-            life: self.lives,
-            software: self.software,
-        };
-        self.show(&started, out)
+        self.start_line(out)
     }
 
     /// The manager starts with these numbers of its lanes, and finds the link empty.

@@ -3,17 +3,13 @@
 #![tactic(auto)]
 
 #[cfg(test)]
-mod contents;
-#[cfg(test)]
-mod core_types;
-//! The class table, the masks, the database, and whole runs of the top call over the sources and sinks in memory. The crate has
-//! tests alone.
-#![tactic(auto)]
-
-#[cfg(test)]
 mod attributes;
 #[cfg(test)]
 mod classes;
+#[cfg(test)]
+mod contents;
+#[cfg(test)]
+mod core_types;
 #[cfg(test)]
 mod database;
 #[cfg(test)]

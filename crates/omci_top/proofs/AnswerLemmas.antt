@@ -7,8 +7,9 @@ use Rattle.script_spec.specs.Fault.{fault}
 use Rattle.script_spec.specs.Reading.{reading}
 use Rattle.script_laws.proofs.Scripts.{reading-Writes, reading_range}
 use Rattle.world_spec.specs.Trace.{trace}
-use Rattle.world_spec.specs.History.{history_of, Once, Answered}
-use Rattle.world_laws.proofs.Runs.{history-once, history-answered}
+use Rattle.history_spec.specs.History.{Once, Answered}
+use Rattle.world_spec.specs.History.{history_of}
+use Rattle.world_laws.proofs.Runs.{history_once, history_answered}
 use Rattle.omci_top.specs.Streams.{ReadsWhole}
 use Rattle.omci_top.specs.Texts.{input_text, answer_of, answer_to}
 use Rattle.omci_top.specs.declared.status.Status.{Status}
@@ -45,12 +46,14 @@ Ends-told WriteFault place reason input before now fb fn faulty is told = (subst
 Ends-told TooLong place reason input before now fb fn faulty is told = elim told [ ]
 Ends-told NoMemory place reason input before now fb fn faulty is told = (subst (λ text. WritesFront text before now) (sym is) told.0, told.1)
 
--- the numbers of a script's header are in their ranges, so the laws of the machine hold of its history
+-- the numbers of a script's header and its lines are in their ranges, so the laws of the machine hold of its history
 acts_once : (script : Script) (input : List ℕ) → Writes script input → Once (history_of script.header script.actions) × Answered (history_of script.header script.actions)
 acts_once script input spelled =
     let ranges = reading_range input script (reading-Writes script input spelled) in
     let header = ranges.header in
-    (history-once script.header script.actions header.low_some header.low_most, history-answered script.header script.actions header.low_some header.low_most)
+    let low = record { some = header.low_some; most = header.low_most } in
+    let high = record { some = header.high_some; most = header.high_most } in
+    (history_once script.header script.actions low high ranges.actions, history_answered script.header script.actions low high ranges.actions)
 
 -- so the answer says of source and sink what it has to say
 pub AnswersReplay-ends : (s : Status) (input : List ℕ) (left_before left_now written_before written_now : Option (List ℕ)) (read_before read_now write_before write_now : ℕ) → ReadsWhole 16777216 left_before left_now input → read_now ≡ read_before → Ends s input written_before written_now write_before write_now → AnswersReplay s left_before left_now written_before written_now read_before read_now write_before write_now

@@ -6,7 +6,8 @@ use Rattle.script_spec.specs.Script.{Script}
 use Rattle.script_spec.specs.Grammar.{Writes}
 use Rattle.script_spec.specs.Fault.{fault}
 use Rattle.world_spec.specs.Trace.{trace}
-use Rattle.world_spec.specs.History.{history_of, Once, Answered}
+use Rattle.history_spec.specs.History.{Once, Answered}
+use Rattle.world_spec.specs.History.{history_of}
 use Rattle.omci_top.specs.Streams.{ReadsWhole, ReadsPast}
 use Rattle.omci_top.specs.Texts.{input_text, answer_to, IsFrontOf}
 use Rattle.omci_top.specs.declared.status.Status.{Status}

@@ -10,15 +10,10 @@ ghost use Rattle.script_spec.specs.Fault.{fault};
 ghost use Rattle.omci_top.specs.Streams.{ReadsPast};
 ghost use Rattle.omci_top.specs.Answers.{replay_words, Replays, Refuses, BreaksOffAt};
 
-mod lines;
-mod link_lanes;
-mod olt_manager;
-mod onu_agent;
 mod replay;
 mod run;
 mod status;
 mod streams;
-mod world;
 
 use omci_core::{Sink, Source, Words};
 pub use status::Status;

@@ -1,18 +1,30 @@
 //! The command `replay`: a script is read whole and run, and its trace is written.
 
-ghost use Rattle.std.specs.Prelude.{◌≡◌, OnOk, OnErr, IfErr};
+ghost use Rattle.std.specs.Prelude.{◌≡◌, ◌++◌, OnOk, OnErr, IfErr};
 ghost use Rattle.std.specs.Io.KnownBytes.{Appends};
 ghost use Rattle.world_spec.specs.Trace.{trace};
 ghost use Rattle.omci_top.specs.Texts.{input_text};
 ghost use Rattle.omci_top.specs.Answers.{WritesFront, EndsRun, Ran, Told, Ends, AnswersReplay};
 
-use crate::lines::put_refusal;
 use crate::run::{RunFault, run};
 use crate::status::Status;
 use crate::streams::{InputFault, read_whole, write_all};
-use omci_core::{Sink, Source};
+use omci_contents::{push_bytes, push_number};
+use omci_core::{NoMemory, Sink, Source};
 use replay_script::{Script, ScriptRefusal, read};
 use std::alloc::Global;
+
+/// Appends the one line of an input that is refused.
+#[tactic(auto, unfolding(crate::specs::Texts::input_text))]
+fn push_input(out: &mut Vec<u8>, place: u64, reason: u8) -> Result<(), NoMemory>
+    ensures text { OnOk result (out.new.items ≡ out.old.items ++ input_text place reason) }
+{
+    push_bytes(out, b"input ")?;
+    push_number(out, place)?;
+    push_bytes(out, b" ")?;
+    push_number(out, reason as u64)?;
+    push_bytes(out, b"\n")
+}
 
 /// Writes the one line of an input that is refused.
 fn refuse<K: Sink>(alloc: Global, place: u64, reason: u8, sink: &mut K) -> Result<(), RunFault>
@@ -22,7 +34,7 @@ fn refuse<K: Sink>(alloc: Global, place: u64, reason: u8, sink: &mut K) -> Resul
     ensures cause { IfErr result (λ e. EndsRun e (K.faults sink.old) (K.faults sink.new)) }
 {
     let mut line = Vec::new(alloc);
-    put_refusal(&mut line, place, reason)?;
+    push_input(&mut line, place, reason)?;
     write_all(sink, &line)?;
     Ok(())
 }

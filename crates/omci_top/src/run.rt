@@ -3,16 +3,16 @@
 ghost use Rattle.std.specs.Prelude.{◌≡◌, ◌+◌, ◌<◌, ◌^◌, ◌++◌, List, length, OnOk, IfErr, OnErr};
 ghost use Rattle.std.specs.Io.KnownBytes.{Appends};
 ghost use Rattle.script_spec.specs.Script.{IsAction};
-ghost use Rattle.world_spec.specs.Nodes.{step};
-ghost use Rattle.world_spec.specs.Trace.{trace, step_text};
+ghost use Rattle.world_spec.specs.Nodes.{Nodes, step};
+ghost use Rattle.world_spec.specs.Trace.{trace, turn_text};
 ghost use Rattle.replay_script.specs.Events.{action_of};
+ghost use Rattle.link_replay.specs.Seen.{seen_of, sound};
 ghost use Rattle.omci_core.specs.Causes.{Rose};
 ghost use Rattle.omci_top.specs.Runs.{WritesSome};
 ghost use Rattle.omci_top.specs.Answers.{WritesFront, EndsRun};
 
-use crate::lines::put_start;
 use crate::streams::write_all;
-use crate::world::{World, software_of};
+use link_replay::{Lines, World};
 use omci_core::{Failed, NoMemory, Sink};
 use replay_script::{Event, Script};
 use std::alloc::{AllocError, Global};
@@ -63,14 +63,14 @@ impl From<Failed> for RunFault {
 }
 
 /// Writes the gathered lines where they are enough for a piece.
-fn write_piece<K: Sink>(lines: &mut Vec<u8>, sink: &mut K) -> Result<(), Failed>
-    ensures written { OnOk result (WritesSome lines.old.items (K.written sink.old) (K.written sink.new) lines.new.items) }
+fn write_piece<K: Sink>(lines: &mut Lines, sink: &mut K) -> Result<(), Failed>
+    ensures written { OnOk result (WritesSome lines.old (K.written sink.old) (K.written sink.new) lines.new) }
     ensures kept { OnOk result (K.faults sink.new ≡ K.faults sink.old) }
-    ensures front { OnErr result (WritesFront lines.old.items (K.written sink.old) (K.written sink.new)) }
+    ensures front { OnErr result (WritesFront lines.old (K.written sink.old) (K.written sink.new)) }
     ensures cause { OnErr result (Rose (K.faults sink.old) (K.faults sink.new)) }
 {
-    if lines.len() >= PIECE_BYTES {
-        write_all(sink, lines)?;
+    if lines.bytes().len() >= PIECE_BYTES {
+        write_all(sink, lines.bytes())?;
         lines.clear();
     }
     Ok(())
@@ -80,17 +80,18 @@ fn write_piece<K: Sink>(lines: &mut Vec<u8>, sink: &mut K) -> Result<(), Failed>
 fn one_event<K: Sink>(
     world: &mut World,
     event: &Event,
-    lines: &mut Vec<u8>,
+    lines: &mut Lines,
     sink: &mut K,
 ) -> Result<(), RunFault>
-    requires few { world.old.event + 1 < 2 ^ 64 }
+    requires few { world.old.seen.ends.event + 1 < 2 ^ 64 }
     requires ranges { IsAction (action_of event.now) }
-    ensures nodes { OnOk result (world.new ≡ (step (action_of event.now) world.old).nodes) }
-    ensures written { OnOk result (WritesSome
-        (lines.old.items ++ step_text (step (action_of event.now) world.old)) (K.written sink.old) (K.written sink.new) lines.new.items) }
+    ensures nodes { OnOk result ((n : Nodes) → world.old.seen ≡ seen_of n
+        → world.new ≡ sound (seen_of (step (action_of event.now) n).nodes)) }
+    ensures written { OnOk result ((n : Nodes) → world.old.seen ≡ seen_of n → WritesSome
+        (lines.old ++ turn_text n (step (action_of event.now) n)) (K.written sink.old) (K.written sink.new) lines.new) }
     ensures kept { OnOk result (K.faults sink.new ≡ K.faults sink.old) }
-    ensures front { OnErr result (WritesFront
-        (lines.old.items ++ step_text (step (action_of event.now) world.old)) (K.written sink.old) (K.written sink.new)) }
+    ensures front { OnErr result ((n : Nodes) → world.old.seen ≡ seen_of n → WritesFront
+        (lines.old ++ turn_text n (step (action_of event.now) n)) (K.written sink.old) (K.written sink.new)) }
     ensures cause { IfErr result (λ e. EndsRun e (K.faults sink.old) (K.faults sink.new)) }
 {
     world.step(event, lines)?;
@@ -105,13 +106,12 @@ pub fn run<K: Sink>(alloc: Global, script: &Script, sink: &mut K) -> Result<(), 
     ensures front { OnErr result (WritesFront (trace script.now) (K.written sink.old) (K.written sink.new)) }
     ensures cause { IfErr result (λ e. EndsRun e (K.faults sink.old) (K.faults sink.new)) }
 {
-    let header = script.header();
-    let mut world = World::new(alloc, header)?;
-    let mut lines = Vec::with_capacity(alloc, PIECE_BYTES)?;
-    put_start(&mut lines, 0, 1, &software_of(header.factory.bytes()))?;
+    let mut world = World::new(alloc, script.header())?;
+    let mut lines = Lines::new(alloc);
+    world.start_line(&mut lines)?;
     for place in 0..script.len() {
         one_event(&mut world, script.event(place), &mut lines, sink)?;
     }
-    write_all(sink, &lines)?;
+    write_all(sink, lines.bytes())?;
     Ok(())
 }

@@ -2,7 +2,7 @@
 
 ghost use Rattle.std.specs.Prelude.{◌≡◌};
 ghost use Rattle.message_spec.specs.Reading.{ResponseWindow};
-ghost use Rattle.mib_spec.specs.Requests.{changed_by, reset_code, reset as reset_of};
+ghost use Rattle.mib_spec.specs.Requests.{unless_refused, reset_code, reset as reset_of};
 ghost use Rattle.unit_spec.specs.Onu.{response_frame, refusal_frame, asks_nothing, has_request_bits};
 
 use entity_classes::class;
@@ -54,7 +54,7 @@ pub fn refusal_of(frame: &Frame) -> Frame
 #[tactic(auto, unfolding(mib_spec::specs::Requests::reset_code))]
 pub fn reset_for(mib: &mut Mib, entity: EntityId) -> Code
     ensures code { result.0 ≡ reset_code entity }
-    ensures after { mib.new ≡ changed_by (reset_code entity) (reset_of mib.old) mib.old }
+    ensures after { mib.new ≡ unless_refused (reset_code entity) (reset_of mib.old) mib.old }
 {
     if class(entity.class).is_none() {
         return Code::UNKNOWN_CLASS;

@@ -14,7 +14,7 @@ use Rattle.message_spec.specs.declared.ContentsFault.TheVariants.{UnknownType, B
 use Rattle.message_spec.specs.Reading.{plain, message_of}
 use Rattle.frame_spec.specs.Baseline.{spelling, packet_frame}
 use Rattle.mib_spec.specs.Database.{Database, first}
-use Rattle.mib_spec.specs.Requests.{create_code, created, deleted, set_done, got, reset_code, reset, changed_by}
+use Rattle.mib_spec.specs.Requests.{create_code, create_outcome, delete_outcome, set_outcome, get_outcome, reset_code, reset, unless_refused}
 use Rattle.retry_spec.specs.Kept.{Kept, nothing_kept, kept_for, kept_with}
 use Rattle.unit_spec.specs.declared.Did.{Did}
 use Rattle.unit_spec.specs.declared.Did.TheVariants as did
@@ -67,17 +67,17 @@ code number = record { 0 = number }
 -- the requests that the unit carries out
 unfoldable pub answer : Frame → Request → Onu → Answer
 answer f (request.Create values) u =
-    let o = created f.entity values u.database in answered f (response.Create (code o.0) 0) (with_database o.1 u)
+    let o = create_outcome f.entity values u.database in answered f (response.Create (code o.0) 0) (with_database o.1 u)
 answer f request.Delete u =
-    let o = deleted f.entity u.database in answered f (response.Delete (code o.0)) (with_database o.1 u)
+    let o = delete_outcome f.entity u.database in answered f (response.Delete (code o.0)) (with_database o.1 u)
 answer f (request.Set mask values) u =
-    let o = set_done f.entity mask values u.database in
+    let o = set_outcome f.entity mask values u.database in
     answered f (response.Set (code o.code) o.unsupported o.failed) (with_database o.database u)
 answer f (request.Get mask) u =
-    let o = got f.entity mask u.database in
+    let o = get_outcome f.entity mask u.database in
     answered f (response.Get (code o.code) o.mask o.values o.unsupported 0) u
 answer f request.Reset u =
-    answered f (response.Reset (code (reset_code f.entity))) (with_database (changed_by (reset_code f.entity) (reset u.database) u.database) u)
+    answered f (response.Reset (code (reset_code f.entity))) (with_database (unless_refused (reset_code f.entity) (reset u.database) u.database) u)
 answer f (request.Alarms mode) u = not_supported f u
 answer f (request.AlarmsNext number) u = not_supported f u
 answer f request.Upload u = not_supported f u

@@ -1,20 +1,18 @@
 -- The machine of both ends beside the machine of moves: what of one is what of the other.
-use Rattle.std.proofs.Common.{◌≡◌, ◌≢◌, ℕ, zero, suc, ◌+◌, ◌<◌, ◌≤◌, Bool, true, false, List, [], ◌∷◌, ◌++◌, length, Option, Some, None, slice_get, refl, sym, ap, subst, ◌∙◌, arith}
+use Rattle.std.proofs.Common.{◌≡◌, ◌≢◌, ℕ, zero, suc, ◌+◌, ◌≤◌, Bool, List, [], ◌∷◌, ◌++◌, length, Option, Some, None, slice_get, refl, sym, ap, subst}
 use Rattle.std.proofs.lemmas.Option.{same_Some}
 use Rattle.omci_types.specs.declared.Priority.{Priority}
 use Rattle.omci_types.specs.declared.Priority.TheVariants.{Low, High}
 use Rattle.tci_spec.specs.Tci.{tci_of, packet_tci}
-use Rattle.link_spec.specs.declared.Direction.{Direction}
 use Rattle.link_spec.specs.declared.Direction.TheVariants.{Down, Up}
-use Rattle.link_spec.specs.Link.{Sent, Link, Ways, way_in}
-use Rattle.retry_spec.specs.Kept.{Reply, Kept, kept_in}
+use Rattle.link_spec.specs.Link.{Sent, Link, Ways}
+use Rattle.retry_spec.specs.Kept.{Reply, Kept}
 use Rattle.lane_spec.specs.Command.{command_packets}
 use Rattle.lane_spec.specs.Lane.{Lane, Waiting}
 use Rattle.manager_spec.specs.declared.Report.{Report}
 use Rattle.manager_spec.specs.Manager.{Manager, lane_in, with_lane}
 use Rattle.unit_spec.specs.Onu.{Onu}
-use Rattle.history_spec.specs.History.{Entry}
-use Rattle.moves_spec.specs.Channel.{Transaction, place_number, LinkPacket, RequestOf, ReplyTo, Unasked, KeptReply, Outstanding, LaneState, Channel, View, lane_view, with_lane_view}
+use Rattle.moves_spec.specs.Channel.{place_number, LinkPacket, RequestOf, ReplyTo, Unasked, KeptReply, Outstanding, LaneState, Channel, View, lane_view, with_lane_view}
 use Rattle.moves_spec.specs.Moves.{Move, after_move, after_moves}
 use Rattle.world_spec.specs.History.{Told, drawn_in}
 
@@ -26,7 +24,8 @@ tci_at l place = tci_of l (place_number place)
 
 -- a packet on the link, and the command that the history gives it
 abbrev pub IsPacket : Sent → ℕ → LinkPacket → Type 0
-IsPacket s name (RequestOf l t) = (s.direction ≡ Down) × (packet_tci s.bytes ≡ tci_at l t.place) × (name ≡ t.id)
+IsPacket s name (RequestOf l t) = (s.direction ≡ Down) × (packet_tci s.bytes ≡ tci_at l t.place) ×
+    (name ≡ t.id)
 IsPacket s name (ReplyTo l t r) =
     (s.direction ≡ Up) × (packet_tci s.bytes ≡ tci_at l t.place) × (name ≡ t.id) × (s.bytes ≡ r)
 IsPacket s name Unasked = ⊥
@@ -39,7 +38,8 @@ ArePackets [] (n ∷ ns) ps = ⊥
 ArePackets (s ∷ ss) [] ps = ⊥
 ArePackets (s ∷ ss) (n ∷ ns) [] = ⊥
 
-pub same_length : (ss : List Sent) (ns : List ℕ) (ps : List LinkPacket) → ArePackets ss ns ps → length ss ≡ length ps
+pub same_length : (ss : List Sent) (ns : List ℕ) (ps : List LinkPacket) → ArePackets ss ns ps
+    → length ss ≡ length ps
 same_length [] [] [] h = refl
 same_length (s ∷ ss) (n ∷ ns) (p ∷ ps) h = ap suc (same_length ss ns ps h.1)
 same_length [] [] (p ∷ ps) h = absurd h
@@ -47,7 +47,8 @@ same_length [] (n ∷ ns) ps h = absurd h
 same_length (s ∷ ss) [] ps h = absurd h
 same_length (s ∷ ss) (n ∷ ns) [] h = absurd h
 
-pub one_more : (ss : List Sent) (ns : List ℕ) (ps : List LinkPacket) (s : Sent) (n : ℕ) (p : LinkPacket)
+pub one_more : (ss : List Sent) (ns : List ℕ) (ps : List LinkPacket) (s : Sent) (n : ℕ)
+    (p : LinkPacket)
     → ArePackets ss ns ps → IsPacket s n p → ArePackets (ss ++ s ∷ []) (ns ++ n ∷ []) (ps ++ p ∷ [])
 one_more [] [] [] s n p h k = (k, tt)
 one_more (x ∷ ss) (y ∷ ns) (z ∷ ps) s n p h k = (h.0, one_more ss ns ps s n p h.1 k)
@@ -64,16 +65,31 @@ pub record AtPlace (ns : List ℕ) (ps : List LinkPacket) (i : ℕ) (s : Sent) :
   pub packet_is : slice_get ps i ≡ Some packet
   pub like : IsPacket s name packet
 
-pub at_place : (ss : List Sent) (ns : List ℕ) (ps : List LinkPacket) (i : ℕ) (s : Sent) → ArePackets ss ns ps → slice_get ss i ≡ Some s
+pub at_place : (ss : List Sent) (ns : List ℕ) (ps : List LinkPacket) (i : ℕ) (s : Sent)
+    → ArePackets ss ns ps → slice_get ss i ≡ Some s
     → AtPlace ns ps i s
 at_place [] ns ps i s h e = absurd (cc)
 at_place (x ∷ ss) [] ps i s h e = absurd h
 at_place (x ∷ ss) (n ∷ ns) [] i s h e = absurd h
 at_place (x ∷ ss) (n ∷ ns) (p ∷ ps) zero s h e =
-    record { name = n; packet = p; name_is = refl; packet_is = refl; like = (let g : x ≡ s = cc in subst (λ z. IsPacket z n p) g h.0) }
+    record {
+      name = n;
+      packet = p;
+      name_is = refl;
+      packet_is = refl;
+      like =
+          (let g : x ≡ s = cc in subst (λ z. IsPacket z n p) g h.0);
+    }
 at_place (x ∷ ss) (n ∷ ns) (p ∷ ps) (suc i) s h e =
     let a = at_place ss ns ps i s h.1 e in
-    record { name = a.name; packet = a.packet; name_is = a.name_is; packet_is = a.packet_is; like = a.like }
+    record {
+      name = a.name;
+      packet = a.packet;
+      name_is = a.name_is;
+      packet_is = a.packet_is;
+      like =
+          a.like;
+    }
 
 -- ---- the ways of the link
 
@@ -86,7 +102,8 @@ pub record AreWays (ways : Ways) (low high : LaneState) : Type 0 where
 -- ---- a lane of the manager
 
 -- it waits for the reply to the same command
-pub record Awaits (l : Priority) (last next : ℕ) (w : Waiting) (place : ℕ) (o : Outstanding) : Type 0 where
+pub record Awaits (l : Priority) (last next : ℕ) (w : Waiting) (place : ℕ)
+    (o : Outstanding) : Type 0 where
   pub number : next ≡ place_number (place + 1)
   pub tci : w.tci ≡ tci_at l o.transaction.place
   pub at : o.transaction.place ≡ place
@@ -101,7 +118,8 @@ IsOut l last next (Some w) place (Some o) = Awaits l last next w place o
 IsOut l last next None place (Some o) = ⊥
 IsOut l last next (Some w) place None = ⊥
 
-pub record IsLane (l : Priority) (last : ℕ) (m : Lane) (proved : Bool) (place : ℕ) (outstanding : Option Outstanding) : Type 0 where
+pub record IsLane (l : Priority) (last : ℕ) (m : Lane) (proved : Bool) (place : ℕ)
+    (outstanding : Option Outstanding) : Type 0 where
   pub priority : m.priority ≡ l
   pub proved_is : m.proved ≡ proved
   pub out : IsOut l last m.next m.outstanding place outstanding
@@ -128,7 +146,8 @@ pub record IsUnit (k : Kept) (low high : Option KeptReply) : Type 0 where
 
 -- ---- the whole
 
-pub record Like (link : Link) (lives : ℕ) (unit : Option Onu) (manager : Option Manager) (t : Told) (p : Channel) : Type 0 where
+pub record Like (link : Link) (lives : ℕ) (unit : Option Onu) (manager : Option Manager) (t : Told)
+    (p : Channel) : Type 0 where
   pub packets : ArePackets link.packets t.names p.shared.packets
   pub ways : AreWays link.ways p.low p.high
   pub lives_are : lives ≡ p.shared.life
@@ -137,7 +156,8 @@ pub record Like (link : Link) (lives : ℕ) (unit : Option Onu) (manager : Optio
   pub unit_is : (u : Onu) → unit ≡ Some u → IsUnit u.kept p.low.kept p.high.kept
   pub manager_is : (m : Manager) → manager ≡ Some m → IsManager t.low t.high m p.low p.high
 
-pub after_both : (ms ns : List Move) (p : Channel) → after_moves (ms ++ ns) p ≡ after_moves ns (after_moves ms p)
+pub after_both : (ms ns : List Move) (p : Channel) → after_moves (ms ++ ns) p
+    ≡ after_moves ns (after_moves ms p)
 after_both [] ns p = refl
 after_both (m ∷ ms) ns p = after_both ms ns (after_move m p)
 
@@ -146,21 +166,26 @@ pub some_manager : (a b : ℕ) (m : Manager) (low high : LaneState) → IsManage
     → (n : Manager) → Some m ≡ Some n → IsManager a b n low high
 some_manager a b m low high h n e = subst (λ x. IsManager a b x low high) (same_Some m n e) h
 
-pub some_unit : (u : Onu) (low high : Option KeptReply) → IsUnit u.kept low high → (n : Onu) → Some u ≡ Some n → IsUnit n.kept low high
+pub some_unit : (u : Onu) (low high : Option KeptReply) → IsUnit u.kept low high → (n : Onu)
+    → Some u ≡ Some n → IsUnit n.kept low high
 some_unit u low high h n e = subst (λ x. IsUnit x.kept low high) (same_Some u n e) h
 
 -- the lane of a manager that is on
-pub lane_like : (l : Priority) (t : Told) (m : Manager) (p : Channel) → IsManager t.low t.high m p.low p.high
+pub lane_like : (l : Priority) (t : Told) (m : Manager) (p : Channel)
+    → IsManager t.low t.high m p.low p.high
     → IsLaneOf l (drawn_in l t) (lane_in l m) (lane_view l p).lane
 lane_like Low t m p h = h.is_low
 lane_like High t m p h = h.is_high
 
 -- where it waits for nothing
-pub idle : (l : Priority) (last : ℕ) (m : Lane) (s : LaneState) → IsLaneOf l last m s → m.outstanding ≡ None
+pub idle : (l : Priority) (last : ℕ) (m : Lane) (s : LaneState) → IsLaneOf l last m s
+    → m.outstanding ≡ None
     → (s.outstanding ≡ None) × (m.next ≡ place_number s.place)
-idle l last m s h e = go s.outstanding refl (subst (λ x. IsOut l last m.next x s.place s.outstanding) e h.out)
+idle l last m s h e =
+    go s.outstanding refl (subst (λ x. IsOut l last m.next x s.place s.outstanding) e h.out)
   where
-    go : (o : Option Outstanding) → s.outstanding ≡ o → IsOut l last m.next None s.place o → (s.outstanding ≡ None) × (m.next ≡ place_number s.place)
+    go : (o : Option Outstanding) → s.outstanding ≡ o → IsOut l last m.next None s.place o
+        → (s.outstanding ≡ None) × (m.next ≡ place_number s.place)
     go None f k = (f, k)
     go (Some o) f k = absurd k
 
@@ -170,24 +195,29 @@ pub record Waits (l : Priority) (last : ℕ) (m : Lane) (s : LaneState) (w : Wai
   pub is : s.outstanding ≡ Some outstanding
   pub awaits : Awaits l last m.next w s.place outstanding
 
-pub busy : (l : Priority) (last : ℕ) (m : Lane) (s : LaneState) (w : Waiting) → IsLaneOf l last m s → m.outstanding ≡ Some w
+pub busy : (l : Priority) (last : ℕ) (m : Lane) (s : LaneState) (w : Waiting) → IsLaneOf l last m s
+    → m.outstanding ≡ Some w
     → Waits l last m s w
-busy l last m s w h e = go s.outstanding refl (subst (λ x. IsOut l last m.next x s.place s.outstanding) e h.out)
+busy l last m s w h e =
+    go s.outstanding refl (subst (λ x. IsOut l last m.next x s.place s.outstanding) e h.out)
   where
-    go : (o : Option Outstanding) → s.outstanding ≡ o → IsOut l last m.next (Some w) s.place o → Waits l last m s w
+    go : (o : Option Outstanding) → s.outstanding ≡ o → IsOut l last m.next (Some w) s.place o
+        → Waits l last m s w
     go None f k = absurd k
     go (Some o) f k = record { outstanding = o; is = f; awaits = k }
 
 -- some moves lead there
 abbrev pub Follows : Link → ℕ → Option Onu → Option Manager → Told → Channel → Type 0
-Follows link lives unit manager t p = (ms : List Move) × Like link lives unit manager t (after_moves ms p)
+Follows link lives unit manager t p = (ms : List Move) × Like link lives unit manager t
+    (after_moves ms p)
 
 pub same_view : (l : Priority) (p : Channel) → with_lane_view l (lane_view l p) p ≡ p
 same_view Low p = refl
 same_view High p = refl
 
 -- nothing more is said of a manager
-pub like_unmanaged : (link : Link) (lives : ℕ) (unit : Option Onu) (manager : Option Manager) (t : Told) (p : Channel)
+pub like_unmanaged : (link : Link) (lives : ℕ) (unit : Option Onu) (manager : Option Manager)
+    (t : Told) (p : Channel)
     → Like link lives unit manager t p → Like link lives unit None t p
 like_unmanaged link lives unit manager t p h = record {
   packets = h.packets;
@@ -199,8 +229,10 @@ like_unmanaged link lives unit manager t p h = record {
   manager_is = λ m e. absurd (cc);
 }
 
-pub like_managed : (link : Link) (lives : ℕ) (unit : Option Onu) (m : Manager) (t : Told) (p : Channel)
-    → Like link lives unit None t p → IsManager t.low t.high m p.low p.high → Like link lives unit (Some m) t p
+pub like_managed : (link : Link) (lives : ℕ) (unit : Option Onu) (m : Manager) (t : Told)
+    (p : Channel)
+    → Like link lives unit None t p → IsManager t.low t.high m p.low p.high
+    → Like link lives unit (Some m) t p
 like_managed link lives unit m t p h k = record {
   packets = h.packets;
   ways = h.ways;
@@ -215,7 +247,8 @@ like_managed link lives unit m t p h k = record {
 pub one_lane : (l : Priority) (t u : Told) (m : Manager) (x : Lane) (v : View) (p : Channel)
     → IsManager t.low t.high m p.low p.high → ((k : Priority) → l ≢ k → drawn_in k u ≡ drawn_in k t)
     → IsLaneOf l (drawn_in l u) x v.lane
-    → IsManager u.low u.high (with_lane l x m) (with_lane_view l v p).low (with_lane_view l v p).high
+    → IsManager u.low u.high (with_lane l x m)
+    (with_lane_view l v p).low (with_lane_view l v p).high
 one_lane Low t u m x v p h same k = record {
   is_low = k;
   is_high = subst (λ n. IsLaneOf High n m.high p.high) (sym (same High (λ e. cc))) h.is_high;
@@ -230,16 +263,21 @@ same_manager Low m = refl
 same_manager High m = refl
 
 -- one lane of the manager has changed, and nothing of the channel
-pub like_one_lane : (l : Priority) (link : Link) (lives : ℕ) (unit : Option Onu) (m : Manager) (x : Lane) (t : Told) (p : Channel)
-    → Like link lives unit (Some m) t p → IsLaneOf l (drawn_in l t) x (lane_view l p).lane → Like link lives unit (Some (with_lane l x m)) t p
+pub like_one_lane : (l : Priority) (link : Link) (lives : ℕ) (unit : Option Onu) (m : Manager)
+    (x : Lane) (t : Told) (p : Channel)
+    → Like link lives unit (Some m) t p → IsLaneOf l (drawn_in l t) x (lane_view l p).lane
+    → Like link lives unit (Some (with_lane l x m)) t p
 like_one_lane l link lives unit m x t p h k =
-    like_managed link lives unit (with_lane l x m) t p (like_unmanaged link lives unit (Some m) t p h)
-      (subst (λ q. IsManager t.low t.high (with_lane l x m) q.low q.high) (same_view l p)
-        (one_lane l t t m x (lane_view l p) p (h.manager_is m refl) (λ k ne. refl) k))
+    like_managed link lives unit (with_lane l x m) t p
+    (like_unmanaged link lives unit (Some m) t p h)
+    (subst (λ q. IsManager t.low t.high (with_lane l x m) q.low q.high) (same_view l p)
+    (one_lane l t t m x (lane_view l p) p (h.manager_is m refl) (λ k ne. refl) k))
 
 -- the reports of a manager don't matter
-pub like_reports : (reports : List Report) (link : Link) (lives : ℕ) (unit : Option Onu) (m : Manager) (t : Told) (p : Channel)
-    → Like link lives unit (Some m) t p → Like link lives unit (Some (record m { reports = reports })) t p
+pub like_reports : (reports : List Report) (link : Link) (lives : ℕ) (unit : Option Onu)
+    (m : Manager) (t : Told) (p : Channel)
+    → Like link lives unit (Some m) t p
+    → Like link lives unit (Some (record m { reports = reports })) t p
 like_reports reports link lives unit m t p h =
     like_managed link lives unit _ t p (like_unmanaged link lives unit (Some m) t p h)
-      (let k = h.manager_is m refl in record { is_low = k.is_low; is_high = k.is_high })
+    (let k = h.manager_is m refl in record { is_low = k.is_low; is_high = k.is_high })

@@ -1,26 +1,24 @@
 -- The manager draws a command and sends it, and sends it again.
-use Rattle.std.proofs.Common.{◌≡◌, ◌≢◌, ℕ, zero, suc, ◌+◌, ◌<◌, ◌≤◌, ◌^◌, Bool, true, false, List, [], ◌∷◌, ◌++◌, length, Option, Some, None, slice_get, refl, sym, ap, subst, ◌∙◌, arith, length-append}
+use Rattle.std.proofs.Common.{◌≡◌, ◌≢◌, ℕ, ◌+◌, ◌<◌, ◌^◌, Bool, true, false, List, [], ◌∷◌, ◌++◌, length, Option, Some, None, refl, sym, ap, subst, ◌∙◌, arith, length-append}
 use Rattle.std.specs.Prelude.{map}
-use Rattle.std.specs.List.{All}
 use Rattle.omci_types.specs.declared.Priority.{Priority}
 use Rattle.omci_types.specs.declared.Priority.TheVariants.{Low, High}
-use Rattle.tci_spec.specs.Tci.{IsNumber, number_after, tci_of, packet_tci}
+use Rattle.tci_spec.specs.Tci.{number_after, tci_of, packet_tci}
 use Rattle.message_spec.specs.Reading.{plain}
-use Rattle.frame_spec.specs.Baseline.{spelling}
-use Rattle.link_spec.specs.declared.Direction.TheVariants.{Down, Up}
-use Rattle.link_spec.specs.Link.{Sent, Link, sent_on}
+use Rattle.link_spec.specs.declared.Direction.TheVariants.{Down}
+use Rattle.link_spec.specs.Link.{Link, sent_on}
 use Rattle.lane_spec.specs.Command.{Command, command_frame, command_packets}
-use Rattle.lane_spec.specs.Lane.{Lane, Waiting, next_tci, with_command}
-use Rattle.manager_spec.specs.Manager.{Manager, Sending, lane_in, with_lane}
+use Rattle.lane_spec.specs.Lane.{Lane, next_tci, with_command}
+use Rattle.manager_spec.specs.Manager.{Manager, lane_in, with_lane}
 use Rattle.unit_spec.specs.Onu.{Onu}
-use Rattle.moves_spec.specs.Channel.{Transaction, place_number, LinkPacket, RequestOf, Outstanding, LaneState, Channel, View, lane_view, with_lane_view}
-use Rattle.moves_spec.specs.Moves.{Move, Draw, Send, drawn_transaction, outstanding_of, with_draw, draw_if, with_packet, with_requests, with_sent, send_if, after_move, after_moves}
+use Rattle.moves_spec.specs.Channel.{Transaction, place_number, RequestOf, Outstanding, LaneState, Channel, View, lane_view, with_lane_view}
+use Rattle.moves_spec.specs.Moves.{Draw, Send, drawn_transaction, outstanding_of, with_draw, draw_if, with_packet, with_requests, with_sent, send_if, after_move}
 use Rattle.moves_laws.proofs.Numbers.{number_next, place_is_number}
-use Rattle.world_spec.specs.Happenings.{Happening, PacketSent, OfLane, CommandDrawn, link_read}
-use Rattle.world_spec.specs.Ends.{goes_down, sends}
+use Rattle.world_spec.specs.Happenings.{Happening, CommandDrawn, link_read}
+use Rattle.world_spec.specs.Ends.{goes_down}
 use Rattle.world_spec.specs.History.{Told, drawn_in, draws_in, tell_all}
 use Rattle.world_laws.proofs.Tcis.{tci_fits, tci_spelled}
-use Rattle.world_laws.proofs.Likeness.{tci_at, IsPacket, ArePackets, one_more, AreWays, Awaits, IsOut, IsLane, IsLaneOf, IsManager, IsUnit, Like, some_manager, lane_like, idle, Waits, busy, Follows, same_view, like_unmanaged, like_managed, one_lane}
+use Rattle.world_laws.proofs.Likeness.{tci_at, one_more, IsLane, IsLaneOf, IsManager, Like, lane_like, idle, Follows, like_unmanaged, like_managed, one_lane}
 
 -- ---- the packets of a command
 
@@ -32,116 +30,196 @@ frame_tci : (tci : ℕ) (c : Command) → (command_frame tci c).tci ≡ tci
 unfolding command_frame plain
 frame_tci tci c = refl
 
-pub packets_tci : (l : Priority) (place : ℕ) (c : Command) → HaveTci (tci_at l place) (command_packets (tci_at l place) c)
+pub packets_tci : (l : Priority) (place : ℕ) (c : Command) → HaveTci (tci_at l place)
+    (command_packets (tci_at l place) c)
 packets_tci l place c =
-    let same = frame_tci (tci_at l place) c in
-    (tci_spelled (command_frame (tci_at l place) c) (subst (λ n. n < 2 ^ 16) (sym same) (tci_fits l (place_number place) (place_is_number place))) ∙ same, tt)
+    let same = frame_tci (tci_at l place) c in (
+      tci_spelled (command_frame (tci_at l place) c)
+          (subst (λ n. n < 2 ^ 16) (sym same)
+          (tci_fits l (place_number place) (place_is_number place))) ∙ same,
+      tt,
+    )
 
 -- they go onto the link
-pub sends_like : (l : Priority) (tr : Transaction) (ps : List (List ℕ)) (link : Link) (lives : ℕ) (unit : Option Onu) (manager : Option Manager) (t : Told) (v : View) (p : Channel)
-    → HaveTci (tci_at l tr.place) ps → drawn_in l t ≡ tr.id → Like link lives unit manager t (with_lane_view l v p)
-    → Like (link_read (map (goes_down l) ps) link) lives unit manager (tell_all (map (goes_down l) ps) t) (with_lane_view l (with_requests l tr ps v) p)
+pub sends_like : (l : Priority) (tr : Transaction) (ps : List (List ℕ)) (link : Link) (lives : ℕ)
+    (unit : Option Onu) (manager : Option Manager) (t : Told) (v : View) (p : Channel)
+    → HaveTci (tci_at l tr.place) ps → drawn_in l t ≡ tr.id
+    → Like link lives unit manager t (with_lane_view l v p)
+    → Like (link_read (map (goes_down l) ps) link) lives unit manager
+    (tell_all (map (goes_down l) ps) t) (with_lane_view l (with_requests l tr ps v) p)
 sends_like l tr [] link lives unit manager t v p tcis name h = h
 sends_like Low tr (x ∷ ps) link lives unit manager t v p tcis name h =
-    sends_like Low tr ps (sent_on (record { direction = Down; bytes = x }) link) lives unit manager (record t { names = t.names ++ t.low ∷ [] }) (with_packet (RequestOf Low tr) v) p tcis.1 name
-      (record {
-        packets = one_more _ _ _ _ _ _ h.packets (refl, tcis.0, name);
-        ways = h.ways; lives_are = h.lives_are; drawn = h.drawn; history = h.history; unit_is = h.unit_is; manager_is = h.manager_is;
-      })
+    sends_like Low tr ps (sent_on (record { direction = Down; bytes = x }) link) lives unit manager
+    (record t { names = t.names ++ t.low ∷ [] }) (with_packet (RequestOf Low tr) v) p tcis.1
+    name
+    (record {
+      packets = one_more _ _ _ _ _ _ h.packets (refl, tcis.0, name);
+      ways = h.ways;
+      lives_are = h.lives_are;
+      drawn = h.drawn;
+      history = h.history;
+      unit_is = h.unit_is;
+      manager_is = h.manager_is;
+    })
 sends_like High tr (x ∷ ps) link lives unit manager t v p tcis name h =
-    sends_like High tr ps (sent_on (record { direction = Down; bytes = x }) link) lives unit manager (record t { names = t.names ++ t.high ∷ [] }) (with_packet (RequestOf High tr) v) p tcis.1 name
-      (record {
-        packets = one_more _ _ _ _ _ _ h.packets (refl, tcis.0, name);
-        ways = h.ways; lives_are = h.lives_are; drawn = h.drawn; history = h.history; unit_is = h.unit_is; manager_is = h.manager_is;
-      })
+    sends_like High tr ps (sent_on (record { direction = Down; bytes = x }) link) lives unit manager
+    (record t { names = t.names ++ t.high ∷ [] }) (with_packet (RequestOf High tr) v) p tcis.1
+    name
+    (record {
+      packets = one_more _ _ _ _ _ _ h.packets (refl, tcis.0, name);
+      ways = h.ways;
+      lives_are = h.lives_are;
+      drawn = h.drawn;
+      history = h.history;
+      unit_is = h.unit_is;
+      manager_is = h.manager_is;
+    })
 
 -- and leave alone what the lanes drew
-pub lasts_stay : (l k : Priority) (ps : List (List ℕ)) (t : Told) → drawn_in k (tell_all (map (goes_down l) ps) t) ≡ drawn_in k t
+pub lasts_stay : (l k : Priority) (ps : List (List ℕ)) (t : Told)
+    → drawn_in k (tell_all (map (goes_down l) ps) t) ≡ drawn_in k t
 lasts_stay l k [] t = refl
-lasts_stay Low k (x ∷ ps) t = lasts_stay Low k ps (record t { names = t.names ++ t.low ∷ [] }) ∙ again k
+lasts_stay Low k (x ∷ ps) t = lasts_stay Low k ps (record t { names = t.names ++ t.low ∷ [] })
+    ∙ again k
   where
     again : (k : Priority) → drawn_in k (record t { names = t.names ++ t.low ∷ [] }) ≡ drawn_in k t
     again Low = refl
     again High = refl
-lasts_stay High k (x ∷ ps) t = lasts_stay High k ps (record t { names = t.names ++ t.high ∷ [] }) ∙ again k
+lasts_stay High k (x ∷ ps) t = lasts_stay High k ps (record t { names = t.names ++ t.high ∷ [] })
+    ∙ again k
   where
     again : (k : Priority) → drawn_in k (record t { names = t.names ++ t.high ∷ [] }) ≡ drawn_in k t
     again Low = refl
     again High = refl
 
-lane_stays : (l : Priority) (tr : Transaction) (ps : List (List ℕ)) (v : View) → (with_requests l tr ps v).lane ≡ v.lane
+lane_stays : (l : Priority) (tr : Transaction) (ps : List (List ℕ)) (v : View)
+    → (with_requests l tr ps v).lane ≡ v.lane
 lane_stays l tr [] v = refl
 lane_stays l tr (p ∷ rest) v = lane_stays l tr rest (with_packet (RequestOf l tr) v)
 
 -- ---- what the moves come to
 
-drawn_goes : (l : Priority) (probe : Bool) (ps : List (List ℕ)) (v : View) (o : Option Outstanding) (proved : Bool) → o ≡ None → (proved ≡ false → probe ≡ true)
+drawn_goes : (l : Priority) (probe : Bool) (ps : List (List ℕ)) (v : View) (o : Option Outstanding)
+    (proved : Bool) → o ≡ None → (proved ≡ false → probe ≡ true)
     → draw_if l probe ps v o proved ≡ with_draw l probe ps v
 drawn_goes l probe ps v (Some x) proved n a = absurd (cc)
 drawn_goes l probe ps v None true n a = refl
 drawn_goes l true ps v None false n a = refl
 drawn_goes l false ps v None false n a = absurd (let e = a refl in cc)
 
-draw_moves : (l : Priority) (probe : Bool) (ps : List (List ℕ)) (p : Channel) → (lane_view l p).lane.outstanding ≡ None → ((lane_view l p).lane.proved ≡ false → probe ≡ true)
+draw_moves : (l : Priority) (probe : Bool) (ps : List (List ℕ)) (p : Channel)
+    → (lane_view l p).lane.outstanding ≡ None → ((lane_view l p).lane.proved ≡ false → probe ≡ true)
     → after_move (Draw l probe ps) p ≡ with_lane_view l (with_draw l probe ps (lane_view l p)) p
-draw_moves l probe ps p w a = ap (λ v. with_lane_view l v p) (drawn_goes l probe ps (lane_view l p) _ _ w a)
+draw_moves l probe ps p w a = ap (λ v. with_lane_view l v p)
+    (drawn_goes l probe ps (lane_view l p) _ _ w a)
 
-pub send_moves : (l : Priority) (v : View) (p : Channel) (o : Outstanding) → v.lane.outstanding ≡ Some o
-    → after_move (Send l) (with_lane_view l v p) ≡ with_lane_view l (with_sent (length o.transaction.packets) o (with_requests l o.transaction o.transaction.packets v)) p
+pub send_moves : (l : Priority) (v : View) (p : Channel) (o : Outstanding) → v.lane.outstanding
+    ≡ Some o
+    → after_move (Send l) (with_lane_view l v p)
+    ≡ with_lane_view l
+    (with_sent (length o.transaction.packets) o
+    (with_requests l o.transaction o.transaction.packets v)) p
 send_moves Low v p o w = ap (λ z. with_lane_view Low (send_if Low v z) p) w
 send_moves High v p o w = ap (λ z. with_lane_view High (send_if High v z) p) w
 
 -- ---- all packets of a command, counted
 
 -- only what is outstanding in the lane differs
-like_counted : (l : Priority) (link : Link) (lives : ℕ) (unit : Option Onu) (t : Told) (count : ℕ) (o : Outstanding) (v : View) (p : Channel)
-    → Like link lives unit None t (with_lane_view l v p) → Like link lives unit None t (with_lane_view l (with_sent count o v) p)
+like_counted : (l : Priority) (link : Link) (lives : ℕ) (unit : Option Onu) (t : Told) (count : ℕ)
+    (o : Outstanding) (v : View) (p : Channel)
+    → Like link lives unit None t (with_lane_view l v p)
+    → Like link lives unit None t (with_lane_view l (with_sent count o v) p)
 like_counted Low link lives unit t count o v p h = record {
   packets = h.packets;
-  ways = record { down_low = h.ways.down_low; down_high = h.ways.down_high; up_low = h.ways.up_low; up_high = h.ways.up_high };
-  lives_are = h.lives_are; drawn = h.drawn; history = h.history; unit_is = h.unit_is; manager_is = λ m e. absurd (cc);
+  ways = record {
+    down_low = h.ways.down_low;
+    down_high = h.ways.down_high;
+    up_low =
+        h.ways.up_low;
+    up_high = h.ways.up_high;
+  };
+  lives_are = h.lives_are;
+  drawn = h.drawn;
+  history = h.history;
+  unit_is = h.unit_is;
+  manager_is = λ m e. absurd (cc);
 }
 like_counted High link lives unit t count o v p h = record {
   packets = h.packets;
-  ways = record { down_low = h.ways.down_low; down_high = h.ways.down_high; up_low = h.ways.up_low; up_high = h.ways.up_high };
-  lives_are = h.lives_are; drawn = h.drawn; history = h.history; unit_is = h.unit_is; manager_is = λ m e. absurd (cc);
+  ways = record {
+    down_low = h.ways.down_low;
+    down_high = h.ways.down_high;
+    up_low =
+        h.ways.up_low;
+    up_high = h.ways.up_high;
+  };
+  lives_are = h.lives_are;
+  drawn = h.drawn;
+  history = h.history;
+  unit_is = h.unit_is;
+  manager_is = λ m e. absurd (cc);
 }
 
 abbrev pub sent_view : Priority → Outstanding → View → View
-sent_view l o v = with_sent (length o.transaction.packets) o (with_requests l o.transaction o.transaction.packets v)
+sent_view l o v = with_sent (length o.transaction.packets) o
+    (with_requests l o.transaction o.transaction.packets v)
 
-pub sent_like : (l : Priority) (o : Outstanding) (link : Link) (lives : ℕ) (unit : Option Onu) (t : Told) (v : View) (p : Channel)
-    → HaveTci (tci_at l o.transaction.place) o.transaction.packets → drawn_in l t ≡ o.transaction.id → Like link lives unit None t (with_lane_view l v p)
-    → Like (link_read (map (goes_down l) o.transaction.packets) link) lives unit None (tell_all (map (goes_down l) o.transaction.packets) t) (with_lane_view l (sent_view l o v) p)
+pub sent_like : (l : Priority) (o : Outstanding) (link : Link) (lives : ℕ) (unit : Option Onu)
+    (t : Told) (v : View) (p : Channel)
+    → HaveTci (tci_at l o.transaction.place) o.transaction.packets → drawn_in l t ≡ o.transaction.id
+    → Like link lives unit None t (with_lane_view l v p)
+    → Like (link_read (map (goes_down l) o.transaction.packets) link) lives unit None
+    (tell_all (map (goes_down l) o.transaction.packets) t) (with_lane_view l (sent_view l o v) p)
 sent_like l o link lives unit t v p tcis name h =
-    like_counted l _ lives unit _ (length o.transaction.packets) o (with_requests l o.transaction o.transaction.packets v) p
-      (sends_like l o.transaction o.transaction.packets link lives unit None t v p tcis name h)
+    like_counted l _ lives unit _ (length o.transaction.packets) o
+    (with_requests l o.transaction o.transaction.packets v) p
+    (sends_like l o.transaction o.transaction.packets link lives unit None t v p tcis name h)
 
 -- the lane after it
 pub sent_lane : (l : Priority) (last : ℕ) (m : Lane) (o : Outstanding) (v : View)
-    → IsLane l last m v.lane.proved v.lane.place (Some (record o { sent = o.sent + length o.transaction.packets }))
+    → IsLane l last m v.lane.proved v.lane.place
+    (Some (record o { sent = o.sent + length o.transaction.packets }))
     → IsLaneOf l last m (sent_view l o v).lane
 sent_lane l last m o v h =
-    subst (λ x. IsLane l last m x.proved x.place (Some (record o { sent = o.sent + length o.transaction.packets })))
-      (sym (lane_stays l o.transaction o.transaction.packets v)) h
+    subst (λ x. IsLane l last m x.proved x.place
+    (Some (record o { sent = o.sent + length o.transaction.packets })))
+    (sym (lane_stays l o.transaction o.transaction.packets v)) h
 
 -- ---- a command is drawn
 
-drawn_like : (l : Priority) (probe : Bool) (ps : List (List ℕ)) (link : Link) (lives : ℕ) (unit : Option Onu) (t : Told) (p : Channel)
-    → Like link lives unit None t p → Like link lives unit None (draws_in l t) (with_lane_view l (with_draw l probe ps (lane_view l p)) p)
+drawn_like : (l : Priority) (probe : Bool) (ps : List (List ℕ)) (link : Link) (lives : ℕ)
+    (unit : Option Onu) (t : Told) (p : Channel)
+    → Like link lives unit None t p → Like link lives unit None (draws_in l t)
+    (with_lane_view l (with_draw l probe ps (lane_view l p)) p)
 drawn_like Low probe ps link lives unit t p h = record {
   packets = h.packets;
-  ways = record { down_low = h.ways.down_low; down_high = h.ways.down_high; up_low = h.ways.up_low; up_high = h.ways.up_high };
+  ways = record {
+    down_low = h.ways.down_low;
+    down_high = h.ways.down_high;
+    up_low =
+        h.ways.up_low;
+    up_high = h.ways.up_high;
+  };
   lives_are = h.lives_are;
   drawn = omega (arith, h.drawn, length-append p.shared.draws (Low ∷ []));
-  history = h.history; unit_is = h.unit_is; manager_is = λ m e. absurd (cc);
+  history = h.history;
+  unit_is = h.unit_is;
+  manager_is = λ m e. absurd (cc);
 }
 drawn_like High probe ps link lives unit t p h = record {
   packets = h.packets;
-  ways = record { down_low = h.ways.down_low; down_high = h.ways.down_high; up_low = h.ways.up_low; up_high = h.ways.up_high };
+  ways = record {
+    down_low = h.ways.down_low;
+    down_high = h.ways.down_high;
+    up_low =
+        h.ways.up_low;
+    up_high = h.ways.up_high;
+  };
   lives_are = h.lives_are;
   drawn = omega (arith, h.drawn, length-append p.shared.draws (High ∷ []));
-  history = h.history; unit_is = h.unit_is; manager_is = λ m e. absurd (cc);
+  history = h.history;
+  unit_is = h.unit_is;
+  manager_is = λ m e. absurd (cc);
 }
 
 draws_own : (l : Priority) (t : Told) → drawn_in l (draws_in l t) ≡ t.drawn
@@ -158,46 +236,78 @@ draws_of_view : (l : Priority) (p : Channel) → (lane_view l p).shared ≡ p.sh
 draws_of_view Low p = refl
 draws_of_view High p = refl
 
-pub draw_follows : (l : Priority) (c : Command) (link : Link) (lives : ℕ) (unit : Option Onu) (m : Manager) (t : Told) (p : Channel)
-    → Like link lives unit (Some m) t p → (lane_in l m).outstanding ≡ None → ((lane_in l m).proved ≡ false → c.probe ≡ true)
-    → (hs : List Happening) → hs ≡ CommandDrawn l ∷ map (goes_down l) (command_packets (next_tci (lane_in l m)) c)
-    → Follows (link_read hs link) lives unit (Some (with_lane l (with_command c (lane_in l m)) m)) (tell_all hs t) p
+pub draw_follows : (l : Priority) (c : Command) (link : Link) (lives : ℕ) (unit : Option Onu)
+    (m : Manager) (t : Told) (p : Channel)
+    → Like link lives unit (Some m) t p → (lane_in l m).outstanding ≡ None
+    → ((lane_in l m).proved ≡ false → c.probe ≡ true)
+    → (hs : List Happening) → hs ≡ CommandDrawn l ∷ map (goes_down l)
+    (command_packets (next_tci (lane_in l m)) c)
+    → Follows (link_read hs link) lives unit (Some (with_lane l (with_command c (lane_in l m)) m))
+    (tell_all hs t) p
 draw_follows l c link lives unit m t p h none allowed hs is =
-    subst (λ xs. Follows (link_read xs link) lives unit (Some (with_lane l (with_command c x) m)) (tell_all xs t) p) (sym is)
-      (Draw l c.probe ps ∷ Send l ∷ [], subst (λ q. Like (link_read goes link) lives unit (Some (with_lane l (with_command c x) m)) (tell_all goes u) q) (sym moves) like)
+    subst (λ xs. Follows (link_read xs link) lives unit (Some (with_lane l (with_command c x) m))
+    (tell_all xs t) p) (sym is) (
+      Draw l c.probe ps ∷ Send l ∷ [],
+      subst
+          (λ q. Like (link_read goes link) lives unit (Some (with_lane l (with_command c x) m))
+          (tell_all goes u) q) (sym moves) like,
+    )
   where
     x : Lane
     x = lane_in l m
+
     ps : List (List ℕ)
     ps = command_packets (next_tci x) c
+
     goes : List Happening
     goes = map (goes_down l) ps
+
     u : Told
     u = draws_in l t
+
     s : LaneState
     s = (lane_view l p).lane
+
     v : View
     v = with_draw l c.probe ps (lane_view l p)
+
     o : Outstanding
     o = outstanding_of (drawn_transaction c.probe ps (lane_view l p))
+
     managed : IsManager t.low t.high m p.low p.high
     managed = h.manager_is m refl
+
     lane : IsLaneOf l (drawn_in l t) x s
     lane = lane_like l t m p managed
+
     free : (s.outstanding ≡ None) × (x.next ≡ place_number s.place)
     free = idle l (drawn_in l t) x s lane none
+
     tci : next_tci x ≡ tci_at l s.place
     tci = ap (λ a. tci_of a x.next) lane.priority ∙ ap (tci_of l) free.1
-    moves : after_move (Send l) (after_move (Draw l c.probe ps) p) ≡ with_lane_view l (sent_view l o v) p
-    moves = ap (after_move (Send l)) (draw_moves l c.probe ps p free.0 (λ e. allowed (lane.proved_is ∙ e))) ∙ send_moves l v p o refl
+
+    moves : after_move (Send l) (after_move (Draw l c.probe ps) p)
+        ≡ with_lane_view l (sent_view l o v) p
+    moves = ap (after_move (Send l))
+        (draw_moves l c.probe ps p free.0 (λ e. allowed (lane.proved_is ∙ e)))
+        ∙ send_moves l v p o refl
+
     id : t.drawn ≡ o.transaction.id
     id = h.drawn ∙ sym (ap (λ a. length a.draws) (draws_of_view l p))
+
     tcis : HaveTci (tci_at l s.place) ps
-    tcis = subst (λ n. HaveTci (tci_at l s.place) (command_packets n c)) (sym tci) (packets_tci l s.place c)
-    unmanaged : Like (link_read goes link) lives unit None (tell_all goes u) (with_lane_view l (sent_view l o v) p)
-    unmanaged = sent_like l o link lives unit u v p tcis (draws_own l t ∙ id) (drawn_like l c.probe ps link lives unit t p (like_unmanaged link lives unit (Some m) t p h))
+    tcis = subst (λ n. HaveTci (tci_at l s.place) (command_packets n c)) (sym tci)
+        (packets_tci l s.place c)
+
+    unmanaged : Like (link_read goes link) lives unit None (tell_all goes u)
+        (with_lane_view l (sent_view l o v) p)
+    unmanaged = sent_like l o link lives unit u v p tcis (draws_own l t ∙ id)
+        (drawn_like l c.probe ps link lives unit t p
+        (like_unmanaged link lives unit (Some m) t p h))
+
     last : drawn_in l (tell_all goes u) ≡ o.transaction.id
     last = lasts_stay l l ps u ∙ draws_own l t ∙ id
+
     after : IsLaneOf l (drawn_in l (tell_all goes u)) (with_command c x) (sent_view l o v).lane
     after = sent_lane l _ (with_command c x) o v (record {
       priority = lane.priority;
@@ -212,5 +322,9 @@ draw_follows l c link lives unit m t p h none allowed hs is =
         name = last;
       };
     })
-    like : Like (link_read goes link) lives unit (Some (with_lane l (with_command c x) m)) (tell_all goes u) (with_lane_view l (sent_view l o v) p)
-    like = like_managed _ lives unit _ _ _ unmanaged (one_lane l t (tell_all goes u) m (with_command c x) (sent_view l o v) p managed (λ k ne. lasts_stay l k ps u ∙ draws_other l k t ne) after)
+
+    like : Like (link_read goes link) lives unit (Some (with_lane l (with_command c x) m))
+        (tell_all goes u) (with_lane_view l (sent_view l o v) p)
+    like = like_managed _ lives unit _ _ _ unmanaged
+        (one_lane l t (tell_all goes u) m (with_command c x)
+        (sent_view l o v) p managed (λ k ne. lasts_stay l k ps u ∙ draws_other l k t ne) after)

@@ -1,11 +1,11 @@
 -- TCIs: of which lane they are, and where they stand in a packet.
-use Rattle.std.proofs.Common.{◌≡◌, ◌≢◌, ℕ, ◌+◌, ◌<◌, ◌≤◌, ◌^◌, Bool, true, false, cond, eqb, List, [], ◌∷◌, ◌++◌, refl, ap, sym, ◌∙◌, arith, nat_lt}
+use Rattle.std.proofs.Common.{◌≡◌, ℕ, ◌+◌, ◌<◌, ◌≤◌, ◌^◌, true, false, cond, ap, arith}
 use Rattle.std.proofs.lemmas.Nat.{from_be_bytes-to_be_bytes_2}
 use Rattle.std.proofs.lemmas.Bool.Decides.{nat_tests}
 use Rattle.omci_types.specs.declared.Priority.{Priority}
 use Rattle.omci_types.specs.declared.Priority.TheVariants.{Low, High}
 use Rattle.omci_types.specs.declared.Frame.{Frame}
-use Rattle.frame_spec.specs.declared.TheConstants.{LAST_NUMBER, FIRST_HIGH_TCI}
+use Rattle.frame_spec.specs.declared.TheConstants.{FIRST_HIGH_TCI}
 use Rattle.tci_spec.specs.Tci.{IsNumber, is_low, priority_of, tci_of, packet_tci}
 use Rattle.frame_spec.specs.Baseline.{checked_bytes, spelling}
 

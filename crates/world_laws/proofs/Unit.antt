@@ -1,5 +1,5 @@
 -- What the unit may make of a packet, by the TCI that stands in it alone.
-use Rattle.std.proofs.Common.{◌≡◌, ◌≢◌, ℕ, Bool, true, false, cond, List, Option, Some, None, Result, Ok, Err, ◌⊎◌, inl, inr, refl, ap, ◌∙◌}
+use Rattle.std.proofs.Common.{◌≡◌, ◌≢◌, ℕ, Bool, true, false, List, Option, Some, None, Result, Ok, Err, ◌⊎◌, inl, inr, refl, ap, ◌∙◌}
 use Rattle.omci_types.specs.declared.Frame.{Frame}
 use Rattle.message_spec.specs.declared.Message.{Message}
 use Rattle.message_spec.specs.declared.Message.TheVariants.{Asked, Answered, Told}
@@ -89,21 +89,24 @@ for_message_is : (m : Result Message ContentsFault) (f : Frame) (u : Onu) (tci :
 for_message_is (Ok (Asked t entity r)) f u tci e = unless_quiet_is (asks_nothing r) f r u tci e
 for_message_is (Ok (Answered t entity r)) f u tci e = inl refl
 for_message_is (Ok (Told t entity notice)) f u tci e = inl refl
-for_message_is (Err (UnknownType number)) f u tci e = if_request_is (has_request_bits f.kind) f u tci e
+for_message_is (Err (UnknownType number)) f u tci e = if_request_is (has_request_bits f.kind) f u
+    tci e
 for_message_is (Err (Bits kind)) f u tci e = inl refl
 
 for_frame_is : (o : Option Frame) (bytes : List ℕ) (u : Onu) → packet_frame bytes ≡ o
     → (for_frame o u ≡ dropped u) ⊎ IsAsked (packet_tci bytes) u (for_frame o u)
 for_frame_is None bytes u e = inl refl
-for_frame_is (Some f) bytes u e = for_message_is (message_of f) f u (packet_tci bytes) (tci_read bytes f e)
+for_frame_is (Some f) bytes u e = for_message_is (message_of f) f u (packet_tci bytes)
+    (tci_read bytes f e)
 
 -- a packet is dropped, or is a request with its TCI
-pub received : (bytes : List ℕ) (u : Onu)
+pub reception_is : (bytes : List ℕ) (u : Onu)
     → (onu_received bytes u ≡ dropped u) ⊎ IsAsked (packet_tci bytes) u (onu_received bytes u)
 unfolding onu_received
-received bytes u = for_frame_is (packet_frame bytes) bytes u refl
+reception_is bytes u = for_frame_is (packet_frame bytes) bytes u refl
 
 -- noise is dropped
-pub noise_received : (bytes : List ℕ) (u : Onu) → fault_of bytes ≢ None → onu_received bytes u ≡ dropped u
+pub noise_received : (bytes : List ℕ) (u : Onu) → fault_of bytes ≢ None → onu_received bytes u
+    ≡ dropped u
 unfolding onu_received
 noise_received bytes u h = ap (λ o. for_frame o u) (noise_read bytes h)

@@ -11,8 +11,8 @@ use Rattle.message_spec.specs.Types.{type_numbered, kind_of}
 use Rattle.message_spec.specs.Text.{kind_text, cut, contents_text, message_text}
 use Rattle.class_spec.specs.Classes.{class_table, class_row}
 use Rattle.class_spec.specs.Masks.{known_mask, unknown_mask, fixed_mask, width_of}
-use Rattle.mib_spec.specs.Database.{held, with_entity, without_entity, zeros_of, values_of, with_values, counter, with_counter, grown, image_values, with_software, ethernet, onu_g, onu2_g, t_cont, first_with, first}
-use Rattle.mib_spec.specs.Requests.{created_entity, create_code, created, delete_code, deleted, set_code, set_effect, set_done, get_code, got_in, reset_code, reset}
+use Rattle.mib_spec.specs.Database.{managed_of, with_entity, without_entity, zeros_of, values_of, with_values, counter, with_counter, with_counter_grown, image_values, with_software, ethernet, onu_g, onu2_g, t_cont, first_with, first}
+use Rattle.mib_spec.specs.Requests.{new_entity, create_code, create_outcome, delete_code, delete_outcome, set_code, set_effect, set_outcome, get_code, get_outcome_in, reset_code, reset}
 use Rattle.retry_spec.specs.Kept.{kept_for, kept_with}
 use Rattle.unit_spec.specs.Onu.{onu_started, answer, asked, onu_received}
 use Rattle.lane_spec.specs.Command.{command_frame}
@@ -44,7 +44,29 @@ pub record Traces : Type 0 where
   pub number_comes_round-is : trace number_comes_round ≡ number_comes_round_trace
 
 pub traces : Traces
-unfolding probe_and_get probe_and_get_trace unproven unproven_trace occupied occupied_trace second_change second_change_trace reply_again reply_again_trace kept_reply kept_reply_trace below_floor below_floor_trace given_up given_up_trace no_frames no_frames_trace unit_restarted unit_restarted_trace manager_restarted manager_restarted_trace created_then_read created_then_read_trace deleted_absent deleted_absent_trace set_refused set_refused_trace counter_set_and_reset counter_set_and_reset_trace number_comes_round number_comes_round_trace digits encode_with crc dividend divide without_first generator add_to_front inverted inverted_bit bits_of number_of message_bits checked_bytes spelling number_at frame_of trailer_at given_check computed_check fault_of frame_unless packet_frame padding put plain message_of type_numbered kind_of kind_text cut contents_text message_text class_table class_row known_mask unknown_mask fixed_mask width_of held with_entity without_entity zeros_of values_of with_values counter with_counter grown image_values with_software ethernet onu_g onu2_g t_cont first_with first created_entity create_code created delete_code deleted set_code set_effect set_done get_code got_in reset_code reset kept_for kept_with onu_started answer asked onu_received command_frame lane_tick lane_reply after_probe after_submit after_packet after_tick allowed ways_past fresh arrives noise second delivered flow acted step effect_text line_text trace_from trace
+unfolding probe_and_get probe_and_get_trace unproven unproven_trace occupied occupied_trace
+    second_change second_change_trace reply_again reply_again_trace kept_reply kept_reply_trace
+    below_floor below_floor_trace given_up given_up_trace no_frames no_frames_trace
+    unit_restarted unit_restarted_trace manager_restarted manager_restarted_trace
+    created_then_read created_then_read_trace deleted_absent deleted_absent_trace
+    set_refused set_refused_trace counter_set_and_reset counter_set_and_reset_trace
+    number_comes_round number_comes_round_trace digits encode_with crc dividend
+    divide without_first generator add_to_front inverted inverted_bit
+    bits_of number_of message_bits checked_bytes spelling number_at
+    frame_of trailer_at given_check computed_check fault_of
+    frame_unless packet_frame padding put plain message_of
+    type_numbered kind_of kind_text cut contents_text
+    message_text class_table class_row known_mask
+    unknown_mask fixed_mask width_of managed_of
+    with_entity without_entity zeros_of
+    values_of with_values counter
+    with_counter with_counter_grown image_values
+    with_software ethernet onu_g
+    onu2_g t_cont first_with
+    first new_entity
+    create_code create_outcome
+    delete_code
+    delete_outcome set_code set_effect set_outcome get_code get_outcome_in reset_code reset kept_for kept_with onu_started answer asked onu_received command_frame lane_tick lane_reply after_probe after_submit after_packet after_tick allowed ways_past fresh arrives noise second delivered flow acted step effect_text line_text trace_from trace
 traces = record {
   probe_and_get-is = refl;
   unproven-is = refl;
@@ -77,7 +99,19 @@ pub record Histories : Type 0 where
   pub created_then_read-is : commands_in created_then_read ≡ 2 ∷ 2 ∷ 1 ∷ 1 ∷ 0 ∷ []
 
 pub histories : Histories
-unfolding kept_reply given_up unit_restarted manager_restarted created_then_read crc dividend divide without_first generator add_to_front inverted inverted_bit bits_of number_of message_bits checked_bytes spelling number_at frame_of trailer_at given_check computed_check fault_of frame_unless packet_frame padding put plain message_of type_numbered kind_of class_table class_row known_mask unknown_mask fixed_mask width_of held with_entity without_entity zeros_of values_of with_values counter with_counter grown image_values with_software ethernet onu_g onu2_g t_cont first_with first created_entity create_code created delete_code deleted set_code set_effect set_done get_code got_in reset_code reset kept_for kept_with onu_started answer asked onu_received command_frame lane_tick lane_reply after_probe after_submit after_packet after_tick allowed ways_past fresh arrives noise second delivered flow acted step told_after
+unfolding kept_reply given_up unit_restarted manager_restarted created_then_read crc dividend divide
+    without_first generator add_to_front inverted inverted_bit bits_of number_of message_bits
+    checked_bytes spelling number_at frame_of trailer_at given_check computed_check fault_of
+    frame_unless packet_frame padding put plain message_of type_numbered kind_of class_table
+    class_row known_mask unknown_mask fixed_mask width_of managed_of with_entity
+    without_entity zeros_of values_of with_values counter with_counter with_counter_grown
+    image_values with_software ethernet onu_g onu2_g t_cont first_with first
+    new_entity create_code create_outcome delete_code delete_outcome set_code
+    set_effect set_outcome get_code get_outcome_in reset_code reset kept_for
+    kept_with onu_started answer asked onu_received command_frame
+    lane_tick lane_reply after_probe after_submit after_packet
+    after_tick allowed ways_past fresh arrives noise second
+    delivered flow acted step told_after
 histories = record {
   kept_reply-is = refl;
   given_up-is = refl;

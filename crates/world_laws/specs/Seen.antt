@@ -1,5 +1,5 @@
 -- What is seen of the machine over a script, and what of it stands in the history.
-use Rattle.std.specs.Prelude.{ℕ, ◌+◌, List, [], ◌∷◌, ◌++◌, map}
+use Rattle.std.specs.Prelude.{ℕ, ◌+◌, List, [], ◌∷◌, ◌++◌, Option, Some, None}
 use Rattle.link_spec.specs.Link.{count}
 use Rattle.manager_spec.specs.declared.Report.{Report}
 use Rattle.manager_spec.specs.declared.Report.TheVariants as report
@@ -7,10 +7,10 @@ use Rattle.script_spec.specs.Script.{Script, Action}
 use Rattle.history_spec.specs.History.{Entry, CarriedOut, TookReply, Noted}
 use Rattle.world_spec.specs.declared.Effect.{Effect}
 use Rattle.world_spec.specs.declared.Effect.TheVariants as effect
-use Rattle.world_spec.specs.Happenings.{Happening, packets_in}
+use Rattle.world_spec.specs.Happenings.{Happening, next_after}
 use Rattle.world_spec.specs.Ends.{factory_software}
 use Rattle.world_spec.specs.Nodes.{Nodes, step, first_nodes}
-use Rattle.world_spec.specs.Trace.{effects_of, line_text}
+use Rattle.world_spec.specs.Trace.{effect_of, line_text}
 
 -- an effect, and the number of its event
 pub record Seen : Type 0 where
@@ -20,11 +20,15 @@ pub record Seen : Type 0 where
 abbrev pub seen_at : ℕ → Effect → Seen
 seen_at event effect = record { event = event; effect = effect }
 
+abbrev pub seen_if : ℕ → Option Effect → List Seen
+seen_if event None = []
+seen_if event (Some e) = seen_at event e ∷ []
+
 -- what is seen of what happened in an event, whose first packet has that number
 abbrev pub seen_in : ℕ → ℕ → List Happening → List Seen
 seen_in event next [] = []
 seen_in event next (h ∷ rest) =
-    map (seen_at event) (effects_of next h) ++ seen_in event (next + packets_in (h ∷ [])) rest
+    seen_if event (effect_of next h) ++ seen_in event (next_after h next) rest
 
 -- what is seen over these lines
 unfoldable pub seen_from : List Action → Nodes → List Seen

@@ -24,19 +24,25 @@ ghost use Rattle.world_laws.specs.Worked.{commands_in, probe_and_get, probe_and_
 /// command is carried out twice in one life of the unit, and each reply that the manager takes is
 /// the one that was made when its command was last carried out.
 pub fn commands_act_once()
-    ensures once { (h : Header) (actions : List Action) → IsNumber h.low → IsNumber h.high → All IsAction actions
+    ensures once { (h : Header) (actions : List Action) → IsNumber h.low → IsNumber h.high
+        → All IsAction actions
         → Once (history_of h actions) }
-    ensures answered { (h : Header) (actions : List Action) → IsNumber h.low → IsNumber h.high → All IsAction actions
+    ensures answered { (h : Header) (actions : List Action) → IsNumber h.low → IsNumber h.high
+        → All IsAction actions
         → Answered (history_of h actions) }
 {}
 
 /// Of a packet that the unit will carry out when it comes: its command was not carried out in this
 /// life, and in a proved lane it is the outstanding command.
 pub fn requests_are_awaited()
-    ensures fresh { (lane : Priority) (n : Nodes) (t : Told) (number : ℕ) (s : Sent) (u : Onu) → AreReached n t
-        → MayBeCarriedOut lane n number s u → WasCarried n.ends.lives (name_at number t.names) t.history → ⊥ }
-    ensures awaited { (lane : Priority) (n : Nodes) (t : Told) (number : ℕ) (s : Sent) (u : Onu) (m : Manager) → AreReached n t
-        → n.ends.manager ≡ Some m → (lane_in lane m).proved ≡ true → MayBeCarriedOut lane n number s u
+    ensures fresh { (lane : Priority) (n : Nodes) (t : Told) (number : ℕ) (s : Sent) (u : Onu)
+        → AreReached n t
+        → MayBeCarriedOut lane n number s u
+        → WasCarried n.ends.lives (name_at number t.names) t.history → ⊥ }
+    ensures awaited { (lane : Priority) (n : Nodes) (t : Told) (number : ℕ) (s : Sent) (u : Onu)
+        (m : Manager) → AreReached n t
+        → n.ends.manager ≡ Some m → (lane_in lane m).proved ≡ true
+        → MayBeCarriedOut lane n number s u
         → IsAwaited lane m t number s }
 {}
 
@@ -44,27 +50,36 @@ pub fn requests_are_awaited()
 /// outstanding command's own, and a unit that is on keeps its TCI. Where the command isn't a probe,
 /// it was carried out in this life of the unit, and this is the reply of the last time.
 pub fn replies_are_own()
-    ensures own { (lane : Priority) (n : Nodes) (t : Told) (number : ℕ) (s : Sent) (m : Manager) (w : Waiting) → AreReached n t
+    ensures own { (lane : Priority) (n : Nodes) (t : Told) (number : ℕ) (s : Sent) (m : Manager)
+        (w : Waiting) → AreReached n t
         → MayBeTaken lane n number s m w → name_at number t.names ≡ drawn_in lane t }
-    ensures kept { (lane : Priority) (n : Nodes) (t : Told) (number : ℕ) (s : Sent) (m : Manager) (w : Waiting) (u : Onu) → AreReached n t
+    ensures kept { (lane : Priority) (n : Nodes) (t : Told) (number : ℕ) (s : Sent) (m : Manager)
+        (w : Waiting) (u : Onu) → AreReached n t
         → MayBeTaken lane n number s m w → n.ends.unit ≡ Some u → KeepsTci lane u w.tci }
-    ensures carried { (lane : Priority) (n : Nodes) (t : Told) (number : ℕ) (s : Sent) (m : Manager) (w : Waiting) → AreReached n t
-        → MayBeTaken lane n number s m w → w.command.probe ≡ false → WasCarried n.ends.lives (drawn_in lane t) t.history }
-    ensures reply { (lane : Priority) (n : Nodes) (t : Told) (number : ℕ) (s : Sent) (m : Manager) (w : Waiting) → AreReached n t
-        → MayBeTaken lane n number s m w → w.command.probe ≡ false → LastReply (drawn_in lane t) s.bytes t.history }
+    ensures carried { (lane : Priority) (n : Nodes) (t : Told) (number : ℕ) (s : Sent) (m : Manager)
+        (w : Waiting) → AreReached n t
+        → MayBeTaken lane n number s m w → w.command.probe ≡ false
+        → WasCarried n.ends.lives (drawn_in lane t) t.history }
+    ensures reply { (lane : Priority) (n : Nodes) (t : Told) (number : ℕ) (s : Sent) (m : Manager)
+        (w : Waiting) → AreReached n t
+        → MayBeTaken lane n number s m w → w.command.probe ≡ false
+        → LastReply (drawn_in lane t) s.bytes t.history }
 {}
 
 /// No request that may come is of an older command than a reply that may come in its lane.
 pub fn requests_follow_replies()
-    ensures older { (lane : Priority) (n : Nodes) (t : Told) (up down : ℕ) (r s : Sent) → AreReached n t
-        → MayCome Up lane n up r → MayCome Down lane n down s → name_at up t.names ≤ name_at down t.names }
+    ensures older { (lane : Priority) (n : Nodes) (t : Told) (up down : ℕ) (r s : Sent)
+        → AreReached n t
+        → MayCome Up lane n up r → MayCome Down lane n down s
+        → name_at up t.names ≤ name_at down t.names }
 {}
 
 /// The history is told of the very machine whose trace a script has: it has an entry for each
 /// `carried` and each `took` of the trace, in the same order, and no other of these.
 pub fn history_is_of_the_machine()
     ensures seen { (s : Script) → trace s ≡ flat_map line_of (all_seen s) }
-    ensures entries { (s : Script) → deeds (history_of s.header s.actions) ≡ deeds_seen (all_seen s) [] }
+    ensures entries { (s : Script)
+        → deeds (history_of s.header s.actions) ≡ deeds_seen (all_seen s) [] }
 {}
 
 /// Scripts worked by hand have the traces that were worked with them, check values included, and

@@ -1,4 +1,4 @@
-use Rattle.world_laws.proofs.Worked.{Traces, traces, Histories, histories}
+use Rattle.world_laws.proofs.Worked.{traces, histories}
 use Rattle.world_laws.proofs.worked_scripts.Goals as goal
 
 pub returns-clause-probe_and_get : goal.returns-clause-probe_and_get

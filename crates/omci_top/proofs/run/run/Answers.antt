@@ -7,14 +7,14 @@ use Rattle.omci_top.proofs.run.run.Goals as goal
 
 pub loop-place-init : goal.loop-place-init
 loop-place-init g c = (
-  run_starts c.args.script.now (header_of c.header-header.result.now) c.in_ok-world.world c.in_ok-lines.lines.items c.put_start.new.out.items c.software_of.result c.bytes.result.now (g.K.Sink.written c.args.sink.now)
-      c.header-header.ensures.value c.in_ok-world.ensures.first c.in_ok-lines.ensures.items c.bytes.ensures.value c.software_of.ensures.value c.in_ok-put_start.ensures.appended,
+  run_starts c.args.script.now (header_of c.header.result.now) c.in_ok-world.world c.new-lines.result c.start_line.new.out (g.K.Sink.written c.args.sink.now)
+      c.header.ensures.value c.in_ok-world.ensures.first c.new-lines.ensures.empty c.in_ok-start_line.ensures.line,
   refl,
 )
 
 pub loop-place-preserved : goal.loop-place-preserved
 loop-place-preserved g c = (
-  run_goes_on c.args.script.now c.loop-place.place (action_of c.event.result.now) c.loop-place.world c.one_event.new.world c.loop-place.lines.items c.one_event.new.lines.items (g.K.Sink.written c.args.sink.now) (g.K.Sink.written c.loop-place.sink) (g.K.Sink.written c.one_event.new.sink)
+  run_goes_on c.args.script.now c.loop-place.place (action_of c.event.result.now) c.loop-place.world c.one_event.new.world c.loop-place.lines c.one_event.new.lines (g.K.Sink.written c.args.sink.now) (g.K.Sink.written c.loop-place.sink) (g.K.Sink.written c.one_event.new.sink)
       c.loop-place.invariant.0 c.event.ensures.value c.in_ok-one_event.ensures.nodes c.in_ok-one_event.ensures.written,
   c.in_ok-one_event.ensures.kept ∙ c.loop-place.invariant.1,
 )
@@ -22,7 +22,7 @@ loop-place-preserved g c = (
 pub returns-in_err-one_event-clause-front : goal.returns-in_err-one_event-clause-front
 returns-in_err-one_event-clause-front g c =
     let p = err_from_is_err_and c.from_residual-in_err-one_event.result c.from_residual-in_err-one_event.ensures.1 in
-    rw p.1 (run_breaks_off c.args.script.now c.loop-place.place (action_of c.event.result.now) c.loop-place.world c.loop-place.lines.items (g.K.Sink.written c.args.sink.now) (g.K.Sink.written c.loop-place.sink) (g.K.Sink.written c.one_event.new.sink)
+    rw p.1 (run_breaks_off c.args.script.now c.loop-place.place (action_of c.event.result.now) c.loop-place.world c.loop-place.lines (g.K.Sink.written c.args.sink.now) (g.K.Sink.written c.loop-place.sink) (g.K.Sink.written c.one_event.new.sink)
     c.loop-place.invariant.0 c.event.ensures.value c.in_err-one_event.ensures.front)
 
 pub returns-in_err-write_all-clause-front : goal.returns-in_err-write_all-clause-front
@@ -30,13 +30,13 @@ returns-in_err-write_all-clause-front g c =
     let p = err_from_is_err_and c.from_residual-in_err-write_all.result c.from_residual-in_err-write_all.ensures.1 in
     let all : c.loop-place.place ≡ length c.args.script.now.actions = omega (arith, c.len-place-end.ensures.value) in
     let broken = c.in_err-write_all.ensures.broken in
-    rw p.1 (run_ends_early c.args.script.now c.loop-place.world c.loop-place.lines.items (g.K.Sink.written c.args.sink.now) (g.K.Sink.written c.loop-place.sink) (g.K.Sink.written c.write_all.new.sink)
-    (subst (λ k. RunSoFar c.args.script.now k c.loop-place.world c.loop-place.lines.items (g.K.Sink.written c.args.sink.now) (g.K.Sink.written c.loop-place.sink)) all c.loop-place.invariant.0)
+    rw p.1 (run_ends_early c.args.script.now c.loop-place.world c.loop-place.lines (g.K.Sink.written c.args.sink.now) (g.K.Sink.written c.loop-place.sink) (g.K.Sink.written c.write_all.new.sink)
+    (subst (λ k. RunSoFar c.args.script.now k c.loop-place.world c.loop-place.lines (g.K.Sink.written c.args.sink.now) (g.K.Sink.written c.loop-place.sink)) all c.loop-place.invariant.0)
     (broken.done, (broken.rest, sym broken.parts ∙ c.deref.ensures.value), broken.added))
 
 pub returns-clause-traced : goal.returns-clause-traced
 returns-clause-traced g c =
     let all : c.loop-place.place ≡ length c.args.script.now.actions = omega (arith, c.len-place-end.ensures.value) in
-    run_ends c.args.script.now c.loop-place.world c.loop-place.lines.items (g.K.Sink.written c.args.sink.now) (g.K.Sink.written c.loop-place.sink) (g.K.Sink.written c.write_all.new.sink)
-    (subst (λ k. RunSoFar c.args.script.now k c.loop-place.world c.loop-place.lines.items (g.K.Sink.written c.args.sink.now) (g.K.Sink.written c.loop-place.sink)) all c.loop-place.invariant.0)
+    run_ends c.args.script.now c.loop-place.world c.loop-place.lines (g.K.Sink.written c.args.sink.now) (g.K.Sink.written c.loop-place.sink) (g.K.Sink.written c.write_all.new.sink)
+    (subst (λ k. RunSoFar c.args.script.now k c.loop-place.world c.loop-place.lines (g.K.Sink.written c.args.sink.now) (g.K.Sink.written c.loop-place.sink)) all c.loop-place.invariant.0)
     (subst (λ text. Appends (g.K.Sink.written c.loop-place.sink) (g.K.Sink.written c.write_all.new.sink) text) c.deref.ensures.value c.in_ok-write_all.ensures.whole)

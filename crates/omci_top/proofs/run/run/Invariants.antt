@@ -4,5 +4,5 @@ use Rattle.omci_top.proofs.run.run.Given as goal
 
 abbrev pub invariant-loop-place : goal.invariant-loop-place
 invariant-loop-place g l =
-    RunSoFar l.script l.place l.world l.lines.items (g.K.Sink.written l.fn.sink) (g.K.Sink.written l.sink)
+    RunSoFar l.script l.place l.world l.lines (g.K.Sink.written l.fn.sink) (g.K.Sink.written l.sink)
     × (g.K.Sink.faults l.sink ≡ g.K.Sink.faults l.fn.sink)

@@ -1,0 +1,6 @@
+use Rattle.link_replay.proofs.Flows.{delivered_on_link}
+use Rattle.link_replay.proofs.machine.Machine.deliver_there.Goals as goal
+
+pub returns : goal.returns
+returns c =
+    record { follows = delivered_on_link c.args.number c.args.self.now c.deliver.new.self c.args.out.now.items c.deliver.new.out.items c.in_ok-deliver.ensures.follows }

@@ -1,0 +1,185 @@
+//! The world as its callers hold it.
+
+ghost use Rattle.std.specs.Prelude.{◌≡◌, ◌+◌, ◌<◌, ◌^◌, ◌++◌, true, OnOk, OnErr, IfOk};
+ghost use Rattle.script_spec.specs.Script.{IsAction, IsHeader};
+ghost use Rattle.link_spec.specs.Link.{Link};
+ghost use Rattle.link_spec.specs.Held.{held_of};
+ghost use Rattle.world_spec.specs.Nodes.{Nodes, first_nodes, delivered, acted, step};
+ghost use Rattle.world_spec.specs.Trace.{line_text, turn_text};
+ghost use Rattle.world_spec.specs.declared.Effect.TheVariants as effect;
+ghost use Rattle.replay_script.specs.Events.{action_of, header_of};
+ghost use Rattle.link_replay.specs.Seen.{shown, followed, sound, seen_of};
+
+use crate::lines::Lines;
+use crate::machine::{Machine, Outbox};
+use link_spec::Direction;
+use omci_contents::Request;
+use omci_core::{EntityId, NoMemory, filled};
+use replay_script::{Event, Header};
+use std::alloc::Global;
+use std::marker::Model;
+
+/// The entity that a reset names.
+const ONU_DATA: EntityId = EntityId {
+    class: 2,
+    instance: 0,
+};
+
+/// Both ends over a simulated link. [`step`](World::step) and [`run`](World::run) alone change it. Where memory runs out in one
+/// of them, the world is spent: each later call of them answers `NoMemory`.
+#[derive(Drop)]
+pub struct World {
+    spent: bool,
+    machine: Machine,
+    outbox: Outbox,
+}
+
+impl Model for World {
+    ghost use Rattle.link_replay.specs.Seen.{State};
+
+    ghost Value = { State };
+
+    ghost view = { λ w. record { spent = w.spent; seen = w.machine } };
+}
+
+impl Machine {
+    /// Does what an event asks for.
+    #[tactic(auto, unfolding(world_spec::specs::Nodes::acted))]
+    fn act(&mut self, event: &Event, outbox: &mut Outbox, out: &mut Vec<u8>) -> Result<(), NoMemory>
+        requires ranges { IsAction (action_of event.now) }
+        ensures follows { OnOk result ((l : Link) → self.old.held ≡ held_of l → shown self.new out.new.items
+            ≡ followed (acted (action_of event.now) (record { ends = self.old.ends; link = l })) self.old out.old.items) }
+    {
+        match event {
+            Event::Probe { lane } => self.probe(*lane, outbox, out)?,
+            Event::Reset { lane } => self.submit(*lane, ONU_DATA, Request::Reset, outbox, out)?,
+            Event::Get { lane, entity, mask } => {
+                let request = Request::Get { mask: *mask };
+                self.submit(*lane, *entity, request, outbox, out)?;
+            }
+            Event::Create {
+                lane,
+                entity,
+                values,
+            } => {
+                let values = filled(values.bytes());
+                self.submit(*lane, *entity, Request::Create { values }, outbox, out)?;
+            }
+            Event::Set {
+                lane,
+                entity,
+                mask,
+                values,
+            } => {
+                let values = filled(values.bytes());
+                let request = Request::Set {
+                    mask: *mask,
+                    values,
+                };
+                self.submit(*lane, *entity, request, outbox, out)?;
+            }
+            Event::Delete { lane, entity } => {
+                self.submit(*lane, *entity, Request::Delete, outbox, out)?;
+            }
+            Event::Deliver { packet } => self.deliver_there(*packet, outbox, out)?,
+            Event::Flow { times } => self.flow(*times, outbox, out)?,
+            Event::NoiseUnit { bytes } => {
+                self.noise(Direction::Down, bytes.bytes(), outbox, out)?;
+            }
+            Event::NoiseOlt { bytes } => self.noise(Direction::Up, bytes.bytes(), outbox, out)?,
+            Event::Tick => self.second(outbox, out)?,
+            Event::CutUnit => self.cut_unit(out)?,
+            Event::CutOlt => self.cut_manager(out)?,
+            Event::StartUnit => self.start_unit(out)?,
+            Event::StartOlt { low, high } => self.start_manager(*low, *high, out)?,
+        }
+        Ok(())
+    }
+
+    /// The packet of that number is delivered, where it may come from the link that this is held of.
+    fn deliver_there(
+        &mut self,
+        number: u64,
+        outbox: &mut Outbox,
+        out: &mut Vec<u8>,
+    ) -> Result<(), NoMemory>
+        ensures follows { OnOk result ((l : Link) → self.old.held ≡ held_of l → shown self.new out.new.items
+            ≡ followed (delivered number (record { ends = self.old.ends; link = l })) self.old out.old.items) }
+    {
+        self.deliver(number, outbox, out)?;
+        Ok(())
+    }
+}
+
+impl Machine {
+    /// Runs one event: it is counted, and what it asks for is done.
+    fn turn(
+        &mut self,
+        event: &Event,
+        outbox: &mut Outbox,
+        out: &mut Vec<u8>,
+    ) -> Result<(), NoMemory>
+        requires few { self.old.ends.event + 1 < 2 ^ 64 }
+        requires ranges { IsAction (action_of event.now) }
+        ensures nodes { OnOk result ((n : Nodes) → self.old ≡ seen_of n → self.new ≡ seen_of (step (action_of event.now) n).nodes) }
+        ensures lines { OnOk result ((n : Nodes) → self.old ≡ seen_of n
+            → out.new.items ≡ out.old.items ++ turn_text n (step (action_of event.now) n)) }
+    {
+        self.event += 1;
+        self.act(event, outbox, out)?;
+        Ok(())
+    }
+}
+
+impl World {
+    /// Both ends as a script's header starts them, over an empty link.
+    pub fn new(alloc: Global, header: &Header) -> Result<World, NoMemory>
+        requires ranges { IsHeader (header_of header.now) }
+        ensures first { IfOk result (λ w. w ≡ sound (seen_of (first_nodes (header_of header.now)))) }
+    {
+        Ok(World {
+            spent: false,
+            machine: Machine::start(alloc, header)?,
+            outbox: Outbox::new(alloc),
+        })
+    }
+
+    /// How many events were run.
+    pub fn events(&self) -> u64
+        ensures value { result ≡ self.now.seen.ends.event }
+    {
+        self.machine.event
+    }
+
+    /// Appends the line of the unit's present life: which slots are active and committed, and what they hold.
+    pub fn start_line(&self, out: &mut Lines) -> Result<(), NoMemory>
+        ensures line { OnOk result (out.new ≡ out.old ++ line_text self.now.seen.ends.event
+            (effect.UnitStarted self.now.seen.ends.lives self.now.seen.ends.software)) }
+    {
+        self.machine.start_line(&mut out.text)
+    }
+
+    /// Runs one event, and appends its lines. For all nodes that the world stands for before, it stands for those after the event's
+    /// step afterwards.
+    pub fn step(&mut self, event: &Event, out: &mut Lines) -> Result<(), NoMemory>
+        requires few { self.old.seen.ends.event + 1 < 2 ^ 64 }
+        requires ranges { IsAction (action_of event.now) }
+        ensures nodes { OnOk result ((n : Nodes) → self.old.seen ≡ seen_of n
+            → self.new ≡ sound (seen_of (step (action_of event.now) n).nodes)) }
+        ensures lines { OnOk result ((n : Nodes) → self.old.seen ≡ seen_of n
+            → out.new ≡ out.old ++ turn_text n (step (action_of event.now) n)) }
+        ensures spent { self.old.spent ≡ true → OnOk result ⊥ }
+        ensures spends { OnErr result (self.new.spent ≡ true) }
+    {
+        if self.spent {
+            return Err(NoMemory);
+        }
+        match self.machine.turn(event, &mut self.outbox, &mut out.text) {
+            Ok(()) => Ok(()),
+            Err(error) => {
+                self.spent = true;
+                Err(error)
+            }
+        }
+    }
+}
