@@ -6,6 +6,8 @@ mod machine;
 mod reports;
 mod texts;
 mod world;
+mod writing;
 
 pub use lines::Lines;
 pub use world::World;
+pub use writing::{RunFault, write_all};

@@ -39,7 +39,7 @@ const MOST_PACKETS: u64 = 1 << 62;
 
 #[derive(Drop)]
 pub struct Machine {
-    alloc: Global,
+    pub alloc: Global,
     pub event: u64,
     lives: u64,
     software: Software,

@@ -1,21 +1,24 @@
 //! The world as its callers hold it.
 
-ghost use Rattle.std.specs.Prelude.{◌≡◌, ◌+◌, ◌<◌, ◌^◌, ◌++◌, true, OnOk, OnErr, IfOk};
+ghost use Rattle.std.specs.Prelude.{◌≡◌, ◌+◌, ◌<◌, ◌^◌, ◌++◌, true, OnOk, OnErr, IfOk, IfErr};
+ghost use Rattle.std.specs.Io.KnownBytes.{Appends};
 ghost use Rattle.script_spec.specs.Script.{IsAction, IsHeader};
 ghost use Rattle.link_spec.specs.Link.{Link};
 ghost use Rattle.link_spec.specs.Held.{held_of};
-ghost use Rattle.world_spec.specs.Nodes.{Nodes, first_nodes, delivered, acted, step};
-ghost use Rattle.world_spec.specs.Trace.{line_text, turn_text};
+ghost use Rattle.world_spec.specs.Nodes.{Nodes, first_nodes, delivered, acted, step, nodes_after};
+ghost use Rattle.world_spec.specs.Trace.{line_text, turn_text, trace};
+ghost use Rattle.link_replay.specs.Writing.{WritesSome, WritesFront, EndsRun};
 ghost use Rattle.world_spec.specs.declared.Effect.TheVariants as effect;
 ghost use Rattle.replay_script.specs.Events.{action_of, header_of};
 ghost use Rattle.link_replay.specs.Seen.{shown, followed, sound, seen_of};
 
 use crate::lines::Lines;
 use crate::machine::{Machine, Outbox};
+use crate::writing::{RunFault, write_all, write_piece};
 use link_spec::Direction;
 use omci_contents::Request;
-use omci_core::{EntityId, NoMemory, filled};
-use replay_script::{Event, Header};
+use omci_core::{EntityId, NoMemory, Sink, filled};
+use replay_script::{Event, Header, Script};
 use std::alloc::Global;
 use std::marker::Model;
 
@@ -181,5 +184,47 @@ impl World {
                 Err(error)
             }
         }
+    }
+
+    /// One event: its lines are gathered, and written where they are enough for a piece.
+    fn one_event<K: Sink>(
+        &mut self,
+        event: &Event,
+        lines: &mut Lines,
+        sink: &mut K,
+    ) -> Result<(), RunFault>
+        requires few { self.old.seen.ends.event + 1 < 2 ^ 64 }
+        requires ranges { IsAction (action_of event.now) }
+        ensures nodes { OnOk result ((n : Nodes) → self.old.seen ≡ seen_of n
+            → self.new ≡ sound (seen_of (step (action_of event.now) n).nodes)) }
+        ensures written { OnOk result ((n : Nodes) → self.old.seen ≡ seen_of n → WritesSome
+            (lines.old ++ turn_text n (step (action_of event.now) n)) (K.written sink.old) (K.written sink.new) lines.new) }
+        ensures kept { OnOk result (K.faults sink.new ≡ K.faults sink.old) }
+        ensures front { OnErr result ((n : Nodes) → self.old.seen ≡ seen_of n → WritesFront
+            (lines.old ++ turn_text n (step (action_of event.now) n)) (K.written sink.old) (K.written sink.new)) }
+        ensures cause { IfErr result (λ e. EndsRun e (K.faults sink.old) (K.faults sink.new)) }
+    {
+        self.step(event, lines)?;
+        write_piece(lines, sink)?;
+        Ok(())
+    }
+
+    /// Runs all events of a script, and writes the trace. The world must be as [`new`](World::new) made it of the script's header.
+    /// After a fault a front of the trace was written; `Write` where the sink failed.
+    pub fn run<K: Sink>(&mut self, script: &Script, sink: &mut K) -> Result<(), RunFault>
+        requires begun { self.old ≡ sound (seen_of (first_nodes script.now.header)) }
+        ensures traced { OnOk result (Appends (K.written sink.old) (K.written sink.new) (trace script.now)) }
+        ensures nodes { OnOk result (self.new ≡ sound (seen_of (nodes_after script.now.actions (first_nodes script.now.header)))) }
+        ensures kept { OnOk result (K.faults sink.new ≡ K.faults sink.old) }
+        ensures front { OnErr result (WritesFront (trace script.now) (K.written sink.old) (K.written sink.new)) }
+        ensures cause { IfErr result (λ e. EndsRun e (K.faults sink.old) (K.faults sink.new)) }
+    {
+        let mut lines = Lines::new(self.machine.alloc);
+        self.start_line(&mut lines)?;
+        for place in 0..script.len() {
+            self.one_event(script.event(place), &mut lines, sink)?;
+        }
+        write_all(sink, lines.bytes())?;
+        Ok(())
     }
 }

@@ -1,4 +1,3 @@
-pub mod RunLemmas
 pub mod Words
 pub mod AnswerLemmas
 pub mod TopLemmas

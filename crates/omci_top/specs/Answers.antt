@@ -9,11 +9,10 @@ use Rattle.world_spec.specs.Trace.{trace}
 use Rattle.history_spec.specs.History.{Once, Answered}
 use Rattle.world_spec.specs.History.{history_of}
 use Rattle.omci_top.specs.Streams.{ReadsWhole, ReadsPast}
-use Rattle.omci_top.specs.Texts.{input_text, answer_to, IsFrontOf}
+use Rattle.link_replay.specs.Writing.{WritesFront}
+use Rattle.omci_top.specs.Texts.{input_text, answer_to}
 use Rattle.omci_top.specs.declared.status.Status.{Status}
 use Rattle.omci_top.specs.declared.status.Status.TheVariants.{Done, Usage, Input, ReadFault, WriteFault, TooLong, NoMemory}
-use Rattle.omci_top.specs.declared.run.RunFault.{RunFault}
-use Rattle.omci_top.specs.declared.run.RunFault.TheVariants as run_fault
 
 -- the command line of a replay
 abbrev pub replay_words : List (List ℕ)
@@ -28,15 +27,6 @@ status_number ReadFault = 3
 status_number WriteFault = 4
 status_number TooLong = 8
 status_number NoMemory = 9
-
--- a front of what is to be written was written
-abbrev pub WritesFront : List ℕ → Option (List ℕ) → Option (List ℕ) → Type 0
-WritesFront whole before now = (front : List ℕ) × IsFrontOf front whole × Appends before now front
-
--- why a run ended before its end: want of memory with no fault of the sink, or such a fault
-abbrev pub EndsRun : RunFault → ℕ → ℕ → Type 0
-EndsRun run_fault.NoMemory faults_before faults_now = faults_now ≡ faults_before
-EndsRun run_fault.Write faults_before faults_now = Rose faults_before faults_now
 
 -- What writing a whole text comes to, by the answer of the run: all of it, or a front of it.
 abbrev pub Ran : Status → List ℕ → Option (List ℕ) → Option (List ℕ) → ℕ → ℕ → Type 0

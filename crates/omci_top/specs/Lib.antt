@@ -1,4 +1,3 @@
 pub mod Streams
 pub mod Texts
-pub mod Runs
 pub mod Answers

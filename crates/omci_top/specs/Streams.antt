@@ -22,11 +22,3 @@ abbrev pub EndsReading : ℕ → Option (List ℕ) → Option (List ℕ) → ℕ
 EndsReading limit before now faults_before faults_now Read = Rose faults_before faults_now
 EndsReading limit before now faults_before faults_now TooLong = ReadsPast limit before now × (faults_now ≡ faults_before)
 EndsReading limit before now faults_before faults_now NoMemory = faults_now ≡ faults_before
-
--- some of the piece's first bytes were added, and then the sink had a fault
-pub record BreaksOff (piece : List ℕ) (before now : Option (List ℕ)) (faults_before faults_now : ℕ) : Type 0 where
-  pub done : List ℕ
-  pub rest : List ℕ
-  pub parts : piece ≡ done ++ rest
-  pub added : Appends before now done
-  pub rose : Rose faults_before faults_now

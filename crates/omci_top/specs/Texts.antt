@@ -15,7 +15,3 @@ answer_of (Err at) = input_text at.0 at.1
 -- what a run on this input writes where nothing fails
 unfoldable pub answer_to : List ℕ → List ℕ
 answer_to input = answer_of (reading input)
-
--- so much of the whole stands at its front
-abbrev pub IsFrontOf : List ℕ → List ℕ → Type 0
-IsFrontOf front whole = (rest : List ℕ) × (front ++ rest ≡ whole)

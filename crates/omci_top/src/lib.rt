@@ -11,7 +11,6 @@ ghost use Rattle.omci_top.specs.Streams.{ReadsPast};
 ghost use Rattle.omci_top.specs.Answers.{replay_words, Replays, Refuses, BreaksOffAt};
 
 mod replay;
-mod run;
 mod status;
 mod streams;
 

@@ -3,12 +3,13 @@
 ghost use Rattle.std.specs.Prelude.{◌≡◌, ◌++◌, OnOk, OnErr, IfErr};
 ghost use Rattle.std.specs.Io.KnownBytes.{Appends};
 ghost use Rattle.world_spec.specs.Trace.{trace};
+ghost use Rattle.link_replay.specs.Writing.{WritesFront, EndsRun};
 ghost use Rattle.omci_top.specs.Texts.{input_text};
-ghost use Rattle.omci_top.specs.Answers.{WritesFront, EndsRun, Ran, Told, Ends, AnswersReplay};
+ghost use Rattle.omci_top.specs.Answers.{Ran, Told, Ends, AnswersReplay};
 
-use crate::run::{RunFault, run};
 use crate::status::Status;
-use crate::streams::{InputFault, read_whole, write_all};
+use crate::streams::{InputFault, read_whole};
+use link_replay::{RunFault, World, write_all};
 use omci_contents::{push_bytes, push_number};
 use omci_core::{NoMemory, Sink, Source};
 use replay_script::{Script, ScriptRefusal, read};
@@ -37,6 +38,17 @@ fn refuse<K: Sink>(alloc: Global, place: u64, reason: u8, sink: &mut K) -> Resul
     push_input(&mut line, place, reason)?;
     write_all(sink, &line)?;
     Ok(())
+}
+
+/// Runs a script over both ends, and writes its trace.
+fn run<K: Sink>(alloc: Global, script: &Script, sink: &mut K) -> Result<(), RunFault>
+    ensures traced { OnOk result (Appends (K.written sink.old) (K.written sink.new) (trace script.now)) }
+    ensures kept { OnOk result (K.faults sink.new ≡ K.faults sink.old) }
+    ensures front { OnErr result (WritesFront (trace script.now) (K.written sink.old) (K.written sink.new)) }
+    ensures cause { IfErr result (λ e. EndsRun e (K.faults sink.old) (K.faults sink.new)) }
+{
+    let mut world = World::new(alloc, script.header())?;
+    world.run(script, sink)
 }
 
 /// Runs a script and writes its trace.

@@ -1,8 +1,7 @@
 ghost use Rattle.std.specs.Prelude.{◌≡◌, ◌<◌, length, vec_len, IfOk, IfErr, OnOk, OnErr};
-ghost use Rattle.std.specs.Io.KnownBytes.{Appends};
-ghost use Rattle.omci_top.specs.Streams.{ReadsWhole, EndsReading, BreaksOff};
+ghost use Rattle.omci_top.specs.Streams.{ReadsWhole, EndsReading};
 
-use omci_core::{Failed, Sink, Source};
+use omci_core::{Failed, Source};
 use std::alloc::{AllocError, Global};
 
 /// The most bytes that an input may have.
@@ -73,17 +72,4 @@ fn read_by<S: Source>(
             }
         }
     }
-}
-
-/// Writes all of the bytes to the sink, which may take them in parts.
-pub fn write_all<K: Sink>(sink: &mut K, bytes: &[u8]) -> Result<(), Failed>
-    ensures whole { OnOk result (Appends (K.written sink.old) (K.written sink.new) bytes.now) }
-    ensures kept { OnOk result (K.faults sink.new ≡ K.faults sink.old) }
-    ensures broken { OnErr result (BreaksOff bytes.now (K.written sink.old) (K.written sink.new) (K.faults sink.old) (K.faults sink.new)) }
-{
-    let mut place = 0;
-    while place < bytes.len() {
-        place += sink.write(&bytes[place..])?;
-    }
-    Ok(())
 }

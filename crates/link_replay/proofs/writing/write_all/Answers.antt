@@ -4,7 +4,7 @@ use Rattle.std.proofs.lemmas.Result.{err_from_is_err_and}
 use Rattle.std.specs.Io.KnownBytes.{Appends}
 use Rattle.omci_core.specs.Causes.{Rose}
 use Rattle.omci_core.proofs.Streams.{Appends-kept, Appends-then}
-use Rattle.omci_top.proofs.streams.write_all.Goals as goal
+use Rattle.link_replay.proofs.writing.write_all.Goals as goal
 
 -- the next n bytes after a place belong to the bytes up to the place and n more
 longer : (bytes : List ℕ) (place n : ℕ) → take place bytes ++ take n (take (length bytes - place) (drop place bytes)) ≡ take (place + n) bytes

@@ -1,5 +1,5 @@
 -- What a run has written after some of its events.
-use Rattle.std.proofs.Common.{◌≡◌, ℕ, zero, suc, ◌+◌, List, [], ◌∷◌, ◌++◌, length, drop, Option, Some, None, slice_get, refl, sym, ◌∙◌, ap, subst, append_assoc, arith}
+use Rattle.std.proofs.Common.{◌≡◌, false, ℕ, zero, suc, ◌+◌, List, [], ◌∷◌, ◌++◌, length, drop, Option, Some, None, slice_get, refl, sym, ◌∙◌, ap, subst, append_assoc, arith}
 use Rattle.std.proofs.lemmas.List.{append-nil}
 use Rattle.std.specs.Io.KnownBytes.{Appends}
 use Rattle.omci_core.proofs.Streams.{Appends-none, Appends-then}
@@ -7,12 +7,11 @@ use Rattle.script_spec.specs.Script.{Script, Action}
 use Rattle.script_spec.specs.Script as script
 use Rattle.world_spec.specs.declared.Effect.TheVariants as effect
 use Rattle.world_spec.specs.Ends.{Ends, factory_software}
-use Rattle.world_spec.specs.Nodes.{Nodes, step, first_nodes}
+use Rattle.world_spec.specs.Nodes.{Nodes, step, first_nodes, nodes_after}
 use Rattle.world_spec.specs.Trace.{line_text, turn_text, trace_from, trace}
 use Rattle.link_replay.specs.Seen.{Seen, State, seen_of, sound}
 use Rattle.link_replay.proofs.Flows.{step_event}
-use Rattle.omci_top.specs.Runs.{WritesSome}
-use Rattle.omci_top.specs.Answers.{WritesFront}
+use Rattle.link_replay.specs.Writing.{WritesSome, WritesFront}
 
 -- the events from a place on, where one is there
 drop_at : (actions : List Action) (place : ℕ) (a : Action) → slice_get actions place ≡ Some a → drop place actions ≡ a ∷ drop (place + 1) actions
@@ -27,27 +26,38 @@ drop_at (x ∷ rest) (suc place) a e =
 pub record RunSoFar (s : Script) (place : ℕ) (now : State) (held : List ℕ) (before after : Option (List ℕ)) : Type 0 where
   pub nodes : Nodes
   pub seen : now.seen ≡ seen_of nodes
+  pub calm : now.spent ≡ false
   pub event : nodes.ends.event ≡ place
   pub done : List ℕ
   pub added : Appends before after done
   pub whole : (done ++ held) ++ trace_from (drop place s.actions) nodes ≡ trace s
+  pub rest : nodes_after (drop place s.actions) nodes ≡ nodes_after s.actions (first_nodes s.header)
 
 -- before the first event the unit's start line is held
-pub run_starts : (s : Script) (h : script.Header) (now : State) (lines held : List ℕ) (before : Option (List ℕ)) → h ≡ s.header → now ≡ sound (seen_of (first_nodes h)) → lines ≡ [] → held ≡ lines ++ line_text now.seen.ends.event (effect.UnitStarted now.seen.ends.lives now.seen.ends.software) → RunSoFar s 0 now held before before
+pub run_starts : (s : Script) (now : State) (lines held : List ℕ) (before : Option (List ℕ)) → now ≡ sound (seen_of (first_nodes s.header)) → lines ≡ [] → held ≡ lines ++ line_text now.seen.ends.event (effect.UnitStarted now.seen.ends.lives now.seen.ends.software) → RunSoFar s 0 now held before before
 unfolding trace
-run_starts s h now lines held before h_is now_is lines_is held_is =
-    let now' = now_is ∙ ap (λ k. sound (seen_of (first_nodes k))) h_is in
+run_starts s now lines held before now_is lines_is held_is =
     let held' = held_is
-    ∙ ap (λ (x : State). lines ++ line_text x.seen.ends.event (effect.UnitStarted x.seen.ends.lives x.seen.ends.software)) now'
+    ∙ ap (λ (x : State). lines ++ line_text x.seen.ends.event (effect.UnitStarted x.seen.ends.lives x.seen.ends.software)) now_is
     ∙ ap (λ t. t ++ line_text 0 (effect.UnitStarted 1 (factory_software s.header.factory))) lines_is in
     record {
       nodes = first_nodes s.header;
-      seen = ap (λ (x : State). x.seen) now';
+      seen = ap (λ (x : State). x.seen) now_is;
+      calm = ap (λ (x : State). x.spent) now_is;
       event = refl;
       done = [];
       added = Appends-none before;
       whole = ap (λ z. z ++ trace_from s.actions (first_nodes s.header)) held';
+      rest = refl;
     }
+
+nodes_next : (a : Action) (rest : List Action) (n : Nodes) → nodes_after rest (step a n).nodes ≡ nodes_after (a ∷ rest) n
+unfolding nodes_after
+nodes_next a rest n = refl
+
+nodes_end : (n : Nodes) → nodes_after [] n ≡ n
+unfolding nodes_after
+nodes_end n = refl
 
 -- what one event writes and leaves held follows what was written before it
 pub run_goes_on : (s : Script) (place : ℕ) (a : Action) (now next : State) (held held' : List ℕ) (before middle after : Option (List ℕ)) → RunSoFar s place now held before middle → slice_get s.actions place ≡ Some a → ((n : Nodes) → now.seen ≡ seen_of n → next ≡ sound (seen_of (step a n).nodes)) → ((n : Nodes) → now.seen ≡ seen_of n → WritesSome (held ++ turn_text n (step a n)) middle after held') → RunSoFar s (place + 1) next held' before after
@@ -60,6 +70,7 @@ run_goes_on s place a now next held held' before middle after so_far here stands
     record {
       nodes = (step a n).nodes;
       seen = ap (λ (x : State). x.seen) (stands n so_far.seen);
+      calm = ap (λ (x : State). x.spent) (stands n so_far.seen);
       event = step_event a n ∙ ap (λ k. k + 1) so_far.event;
       done = so_far.done ++ some.done;
       added = Appends-then before middle after so_far.done some.done so_far.added some.added;
@@ -68,6 +79,7 @@ run_goes_on s place a now next held held' before middle after so_far here stands
           ∙ append_assoc (so_far.done ++ held) lines (trace_from rest (step a n).nodes)
           ∙ ap (λ actions. (so_far.done ++ held) ++ trace_from actions n) (sym (drop_at s.actions place a here))
           ∙ so_far.whole;
+      rest = nodes_next a rest n ∙ ap (λ actions. nodes_after actions n) (sym (drop_at s.actions place a here)) ∙ so_far.rest;
     }
 
 -- a front of what is held and of the next event's lines is a front of the trace
@@ -110,6 +122,12 @@ run_ends_early s now held before middle after so_far front =
       (front.1.0, append_assoc so_far.done front.0 front.1.0 ∙ ap (λ z. so_far.done ++ z) front.1.1 ∙ whole),
       Appends-then before middle after so_far.done front.0 so_far.added front.2,
     )
+
+-- at the end the world stands for the nodes after all events
+pub run_stands : (s : Script) (now : State) (held : List ℕ) (before after : Option (List ℕ)) → RunSoFar s (length s.actions) now held before after → now ≡ sound (seen_of (nodes_after s.actions (first_nodes s.header)))
+run_stands s now held before after so_far =
+    let whole = sym (nodes_end so_far.nodes) ∙ ap (λ actions. nodes_after actions so_far.nodes) (sym (no_more s.actions)) ∙ so_far.rest in
+    ap (λ b. record { spent = b; seen = now.seen }) so_far.calm ∙ ap sound so_far.seen ∙ ap (λ n. sound (seen_of n)) whole
 
 -- nothing that was written is a front of any text
 pub nothing_written : (text : List ℕ) (before : Option (List ℕ)) → WritesFront text before before

@@ -1,8 +1,0 @@
-use Rattle.std.proofs.Common.{◌≡◌}
-use Rattle.omci_top.proofs.RunLemmas.{RunSoFar}
-use Rattle.omci_top.proofs.run.run.Given as goal
-
-abbrev pub invariant-loop-place : goal.invariant-loop-place
-invariant-loop-place g l =
-    RunSoFar l.script l.place l.world l.lines (g.K.Sink.written l.fn.sink) (g.K.Sink.written l.sink)
-    × (g.K.Sink.faults l.sink ≡ g.K.Sink.faults l.fn.sink)
