@@ -1,7 +1,8 @@
 -- What the answer to an input says, from what a run of it came to.
 use Rattle.std.proofs.Common.{◌≡◌, ℕ, List, Option, Some, Ok, Err, sym, ◌∙◌, ap, subst, inr}
 use Rattle.std.specs.Io.KnownBytes.{Appends}
-use Rattle.script_spec.specs.Script.{Script}
+use Rattle.std.specs.List.{All}
+use Rattle.script_spec.specs.Script.{Script, Header, Action, IsAction}
 use Rattle.script_spec.specs.Grammar.{Writes}
 use Rattle.script_spec.specs.Fault.{fault}
 use Rattle.script_spec.specs.Reading.{reading}
@@ -10,12 +11,12 @@ use Rattle.world_spec.specs.Trace.{trace}
 use Rattle.tci_spec.specs.Tci.{IsNumber}
 use Rattle.history_spec.specs.History.{Once, Answered}
 use Rattle.world_spec.specs.History.{history_of}
-use Rattle.world_laws.proofs.Runs.{history_once, history_answered}
 use Rattle.omci_top.specs.Streams.{ReadsWhole}
 use Rattle.omci_top.specs.Texts.{input_text, answer_of, answer_to}
 use Rattle.omci_top.specs.declared.status.Status.{Status}
 use Rattle.omci_top.specs.declared.status.Status.TheVariants.{Done, Usage, Input, ReadFault, WriteFault, TooLong, NoMemory}
-use Rattle.omci_top.specs.Answers.{Ran, Told, Ends, WritesFront, AnswersReplay}
+use Rattle.link_replay.specs.Writing.{WritesFront}
+use Rattle.omci_top.specs.Answers.{Ran, Told, Ends, AnswersReplay}
 
 pub answer_to_script : (input : List ℕ) (script : Script) → reading input ≡ Ok script → answer_to input ≡ trace script
 unfolding answer_to
@@ -47,26 +48,33 @@ Ends-told WriteFault place reason input before now fb fn faulty is told = (subst
 Ends-told TooLong place reason input before now fb fn faulty is told = elim told [ ]
 Ends-told NoMemory place reason input before now fb fn faulty is told = (subst (λ text. WritesFront text before now) (sym is) told.0, told.1)
 
+-- the law that no command acts twice, and that each reply taken is its command's own
+abbrev pub OnceLaw : Type 0
+OnceLaw = (h : Header) (actions : List Action) → IsNumber h.low → IsNumber h.high → All IsAction actions → Once (history_of h actions)
+
+abbrev pub AnsweredLaw : Type 0
+AnsweredLaw = (h : Header) (actions : List Action) → IsNumber h.low → IsNumber h.high → All IsAction actions → Answered (history_of h actions)
+
 -- the numbers of a script's header and its lines are in their ranges, so the laws of the machine hold of its history
-acts_once : (script : Script) (input : List ℕ) → Writes script input → Once (history_of script.header script.actions) × Answered (history_of script.header script.actions)
-acts_once script input spelled =
+acts_once : OnceLaw → AnsweredLaw → (script : Script) (input : List ℕ) → Writes script input → Once (history_of script.header script.actions) × Answered (history_of script.header script.actions)
+acts_once once answered script input spelled =
     let ranges = reading_range input script (reading-Writes script input spelled) in
     let header = ranges.header in
     let low : IsNumber script.header.low = record { some = header.low_some; most = header.low_most } in
     let high : IsNumber script.header.high = record { some = header.high_some; most = header.high_most } in
-    (history_once script.header script.actions low high ranges.actions, history_answered script.header script.actions low high ranges.actions)
+    (once script.header script.actions low high ranges.actions, answered script.header script.actions low high ranges.actions)
 
 -- so the answer says of source and sink what it has to say
-pub AnswersReplay-ends : (s : Status) (input : List ℕ) (left_before left_now written_before written_now : Option (List ℕ)) (read_before read_now write_before write_now : ℕ) → ReadsWhole 16777216 left_before left_now input → read_now ≡ read_before → Ends s input written_before written_now write_before write_now → AnswersReplay s left_before left_now written_before written_now read_before read_now write_before write_now
-AnswersReplay-ends Done input lb ln wb wn rb rn kb kn read same ends =
-    let acts = acts_once ends.0.0 input ends.0.1 in
+pub AnswersReplay-ends : OnceLaw → AnsweredLaw → (s : Status) (input : List ℕ) (left_before left_now written_before written_now : Option (List ℕ)) (read_before read_now write_before write_now : ℕ) → ReadsWhole 16777216 left_before left_now input → read_now ≡ read_before → Ends s input written_before written_now write_before write_now → AnswersReplay s left_before left_now written_before written_now read_before read_now write_before write_now
+AnswersReplay-ends once answered Done input lb ln wb wn rb rn kb kn read same ends =
+    let acts = acts_once once answered ends.0.0 input ends.0.1 in
     (record { input = input; script = ends.0.0; read = read; spelled = ends.0.1; traced = ends.0.2; once = acts.0; answered = acts.1 }, same, ends.1)
-AnswersReplay-ends Usage input lb ln wb wn rb rn kb kn read same ends = elim ends [ ]
-AnswersReplay-ends (Input place reason) input lb ln wb wn rb rn kb kn read same ends =
+AnswersReplay-ends once answered Usage input lb ln wb wn rb rn kb kn read same ends = elim ends [ ]
+AnswersReplay-ends once answered (Input place reason) input lb ln wb wn rb rn kb kn read same ends =
     (record { input = input; read = read; faulty = ends.0; told = ends.1 }, same, ends.2)
-AnswersReplay-ends ReadFault input lb ln wb wn rb rn kb kn read same ends = elim ends [ ]
-AnswersReplay-ends WriteFault input lb ln wb wn rb rn kb kn read same ends =
+AnswersReplay-ends once answered ReadFault input lb ln wb wn rb rn kb kn read same ends = elim ends [ ]
+AnswersReplay-ends once answered WriteFault input lb ln wb wn rb rn kb kn read same ends =
     (record { input = input; read = read; front = ends.0 }, same, ends.1)
-AnswersReplay-ends TooLong input lb ln wb wn rb rn kb kn read same ends = elim ends [ ]
-AnswersReplay-ends NoMemory input lb ln wb wn rb rn kb kn read same ends =
+AnswersReplay-ends once answered TooLong input lb ln wb wn rb rn kb kn read same ends = elim ends [ ]
+AnswersReplay-ends once answered NoMemory input lb ln wb wn rb rn kb kn read same ends =
     (inr (record { input = input; read = read; front = ends.0 }), same, ends.1)

@@ -14,10 +14,6 @@ use Rattle.omci_top.specs.Texts.{input_text, answer_to}
 use Rattle.omci_top.specs.declared.status.Status.{Status}
 use Rattle.omci_top.specs.declared.status.Status.TheVariants.{Done, Usage, Input, ReadFault, WriteFault, TooLong, NoMemory}
 
--- the command line of a replay
-abbrev pub replay_words : List (List ℕ)
-replay_words = codes "replay" ∷ []
-
 -- the exit status of the program
 abbrev pub status_number : Status → ℕ
 status_number Done = 0

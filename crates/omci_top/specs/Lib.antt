@@ -1,3 +1,4 @@
+pub mod Commands
 pub mod Streams
 pub mod Texts
 pub mod Answers

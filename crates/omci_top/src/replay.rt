@@ -14,6 +14,7 @@ use omci_contents::{push_bytes, push_number};
 use omci_core::{NoMemory, Sink, Source};
 use replay_script::{Script, ScriptRefusal, read};
 use std::alloc::Global;
+use world_laws::commands_act_once;
 
 /// Appends the one line of an input that is refused.
 #[tactic(auto, unfolding(crate::specs::Texts::input_text))]
@@ -95,6 +96,7 @@ pub fn replay<S: Source, K: Sink>(alloc: Global, source: &mut S, sink: &mut K) -
     ensures read_fault { result ≡ Status.ReadFault → sink.new ≡ sink.old }
     ensures too_long { result ≡ Status.TooLong → sink.new ≡ sink.old }
 {
+    commands_act_once();
     match read_whole(alloc, source) {
         Ok(input) => answer(alloc, input, sink),
         Err(InputFault::Read) => Status::ReadFault,

@@ -1,7 +1,7 @@
 use Rattle.std.proofs.Common.{◌∷◌, [], sym, ◌∙◌, ap}
 use Rattle.std.specs.Cmp.Lexicographic.{bytes_decides}
 use Rattle.omci_top.proofs.Words.{one_word, first_word}
-use Rattle.omci_top.proofs.is_replay.Goals as goal
+use Rattle.omci_top.proofs.command.is_replay.Goals as goal
 
 pub returns-then-len-eq1 : goal.returns-then-len-eq1
 returns-then-len-eq1 c =

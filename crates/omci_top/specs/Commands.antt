@@ -1,0 +1,15 @@
+-- Which words are which command line.
+use Rattle.std.specs.Prelude.{ℕ, Bool, if◌then◌else◌, List, [], ◌∷◌, codes, Option, Some, None}
+use Rattle.std.specs.Str.{bytes_eq}
+use Rattle.omci_top.specs.declared.command.Command.{Command}
+use Rattle.omci_top.specs.declared.command.Command.TheVariants.{Replay}
+
+-- the command line of a replay
+abbrev pub replay_words : List (List ℕ)
+replay_words = codes "replay" ∷ []
+
+-- the command of these words, if they are a command line
+abbrev pub command_of : List (List ℕ) → Option Command
+command_of [] = None
+command_of (word ∷ []) = if bytes_eq word (codes "replay") then Some Replay else None
+command_of (word ∷ another ∷ rest) = None
