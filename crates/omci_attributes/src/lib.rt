@@ -6,6 +6,3 @@ mod widths;
 
 pub use mask::Mask;
 pub use widths::{MaskFault, Selection, known, place, select, width};
-
-#[cfg(test)]
-mod tests;
