@@ -1,8 +1,12 @@
 //! The program `omci`: the top call over the words of the command line, standard input and standard output.
 #![tactic(auto)]
 
+ghost use Rattle.std.specs.Prelude.{◌≡◌, drop, map, IfOk};
+ghost use Rattle.std.specs.String.{string_bytes};
+
 use omci_core::{NoMemory, StdSink, StdSource, Words};
 use omci_top::{Status, omci};
+use std::alloc::Global;
 use std::env;
 use std::io::{self, ErrorKind};
 use std::process::ExitCode;
@@ -21,19 +25,30 @@ impl From<NoMemory> for NoWords {
     }
 }
 
+/// The words after the program's name, byte for byte.
+fn words_after(alloc: Global, arguments: &[String]) -> Result<Words, NoMemory>
+    ensures words { IfOk result (λ words. words ≡ map string_bytes (drop 1 arguments.now)) }
+{
+    let mut words = Words::new(alloc);
+    for place in 1..arguments.len() {
+        words.push(arguments[place].as_bytes())?;
+    }
+    Ok(words)
+}
+
 /// The words of the command line after the program's name.
 fn words_of<R: Env + AllocGlobal>(rt: &R) -> Result<Words, NoWords> {
-    let arguments = env::args(rt).map_err(|error| match error.kind() {
+    let given = env::args(rt).map_err(|error| match error.kind() {
         ErrorKind::OutOfMemory => NoWords::NoMemory,
         _ => NoWords::NotText,
     })?;
-    let mut words = Words::new(rt.alloc());
-    for (place, argument) in arguments.enumerate() {
-        if place > 0 {
-            words.push(argument.as_bytes())?;
+    let mut arguments = Vec::new(rt.alloc());
+    for argument in given {
+        if arguments.push(argument).is_err() {
+            return Err(NoWords::NoMemory);
         }
     }
-    Ok(words)
+    Ok(words_after(rt.alloc(), &arguments)?)
 }
 
 fn main(rt: HostRuntime) -> ExitCode {
