@@ -184,6 +184,14 @@ fn software_images_are_rewritten(rt: HostRuntime) -> Result<(), Fail> {
     Ok(())
 }
 
+/// Whether the entity at a place is this one, with so many bytes of values that end in this byte.
+fn stands_at(mib: &Mib, place: usize, entity: EntityId, width: usize, last: u8) -> bool {
+    place < mib.len()
+        && mib.entity(place) == entity
+        && mib.values(place).len() == width
+        && mib.values(place).last() == Some(&last)
+}
+
 #[test]
 fn entities_stand_in_order(rt: HostRuntime) -> Result<(), Fail> {
     let mut mib = Mib::new(rt.alloc(), FACTORY)?;
@@ -201,13 +209,13 @@ fn entities_stand_in_order(rt: HostRuntime) -> Result<(), Fail> {
             Code::SUCCESS
         );
     }
-    for (place, instance) in [1u16, 2, 4, 5, 7].iter().enumerate() {
-        assert_eq!(rt; mib.entity(7 + place), entity(84, *instance));
-        assert_eq!(rt; mib.values(7 + place).len(), 26);
-        assert_eq!(rt; mib.values(7 + place)[25], *instance as u8);
+    for (place, instance) in [(7, 1u16), (8, 2), (9, 4), (10, 5), (11, 7)] {
+        assert_eq!(rt;
+            stands_at(&mib, place, entity(84, instance), 26, instance as u8),
+            true
+        );
     }
-    assert_eq!(rt; mib.entity(0), entity(2, 0));
-    assert_eq!(rt; mib.values(0).len(), 1);
-    assert_eq!(rt; mib.entity(15), entity(262, 32770));
+    assert_eq!(rt; stands_at(&mib, 0, entity(2, 0), 1, 9), true);
+    assert_eq!(rt; stands_at(&mib, 15, entity(262, 32770), 4, 1), true);
     Ok(())
 }

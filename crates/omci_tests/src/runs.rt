@@ -152,7 +152,7 @@ const REFUSED: [Refused; 14] = [
         reason: 1,
     },
     Refused {
-        input: b"omci 1 4096 1 1 ff\nprobe high\n",
+        input: b"omci 1 4096 1 1 ff\nprobe middle\n",
         line: 2,
         reason: 1,
     },
