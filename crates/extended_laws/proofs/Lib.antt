@@ -1,0 +1,3 @@
+pub mod Sound
+pub mod Long
+pub mod Sets
