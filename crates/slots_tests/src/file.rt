@@ -7,7 +7,7 @@ use std::fs;
 use std::test::Fail;
 
 /// The file, in a folder that any user may write.
-const NAME: &str = "/tmp/omci-slots-test.img";
+const NAME: &str = "omci-slots-test.img";
 
 #[test]
 fn a_file_keeps_its_slots(rt: HostRuntime) -> Result<(), Fail> {
