@@ -1,12 +1,12 @@
 #!/usr/bin/env python3
-"""Writes a script of N commands on class 272, each followed by `flow 2`: creates 40 %, sets 30 %, gets 20 %, deletes 10 %
-over 4,000 instances. The same N gives the same script."""
+"""Writes a script that resynchronises and then has N commands on class 272, each followed by `flow 2`: creates 40 %, sets
+30 %, gets 20 %, deletes 10 % over 4,000 instances. The same N gives the same script."""
 import random
 import sys
 
 count = int(sys.argv[1])
 draw = random.Random(count)
-lines = ["omci 1 4096 1 1 ff", "probe low", "flow 2"]
+lines = ["omci 1 4096 1 1 ff", "resync", "flow 100"]
 for _ in range(count):
     instance = draw.randrange(4000)
     kind = draw.random()

@@ -118,7 +118,8 @@ impl<D: Disk> Download<D> {
     pub fn view(&self, slot: u8) -> Option<SlotView>
         requires slot { slot < 2 }
         ensures view { result ≡ view_at slot self.now.header }
-        ensures shows { (s : SlotPair) → Settled D.seen D.may_leave self.now.disk self.now.header s → result ≡ option_map view_of (image_of slot s) }
+        ensures shows { (s : SlotPair) → Settled D.seen D.may_leave self.now.disk self.now.header s
+            → result ≡ option_map view_of (image_of slot s) }
     {
         slot_header(&self.header, slot).view
     }
@@ -134,19 +135,36 @@ impl<D: Disk> Download<D> {
     /// stands for it while the gate is closed.
     #[tactic(auto, unfolding(slot_spec::specs::Rig::after_calls, slot_spec::specs::Rig::calls_fail))]
     pub fn put(self, piece: &[u8]) -> Result<Download<D>, PutRefusal<D>>
-        ensures moments { (s : SlotPair) (put : List ℕ) → Filling D.seen D.may_leave self.disk self.header self.target s put → Loaded self put → Moments D.clock D.left_since D.may_leave self.disk (put_disk result) (StandsAmong self.header.room (mid Keep s)) }
-        ensures filling { (s : SlotPair) (put : List ℕ) → Filling D.seen D.may_leave self.disk self.header self.target s put → Loaded self put → IfOk result (λ download. Filling D.seen D.may_leave download.disk download.header download.target s (put ++ piece.now)) }
-        ensures loaded { (put : List ℕ) → Loaded self put → IfOk result (λ download. Loaded download (put ++ piece.now)) }
-        ensures rig { Makes (put_calls piece.now self.header.room self.target self.have self.size) (D.rig self.disk) (D.rig (put_disk result)) (put_faults result) }
-        ensures outcome { (r : Rigged) (s : SlotPair) (put : List ℕ) → D.rig self.disk ≡ Some r → Filling D.seen D.may_leave self.disk self.header self.target s put → Loaded self put → Leaves (StandsAt self.header.room) Keep s r.trap (D.rig (put_disk result)) }
-        ensures gates { (r : Rigged) (s : SlotPair) (put : List ℕ) → D.rig self.disk ≡ Some r → Filling D.seen D.may_leave self.disk self.header self.target s put → Loaded self put → RigHolds GatesHold s r → Leaves GatesHold Keep s r.trap (D.rig (put_disk result)) }
-        ensures length { (s : SlotPair) (put : List ℕ) (size : ℕ) → Filling D.seen D.may_leave self.disk self.header self.target s put → Loaded self put → HasLength D.may_leave size self.disk → HasLength D.may_leave size (put_disk result) }
+        ensures moments { (s : SlotPair) (put : List ℕ)
+            → Filling D.seen D.may_leave self.disk self.header self.target s put → Loaded self put
+            → Moments D.clock D.left_since D.may_leave self.disk (put_disk result)
+            (StandsAmong self.header.room (mid Keep s)) }
+        ensures filling { (s : SlotPair) (put : List ℕ)
+            → Filling D.seen D.may_leave self.disk self.header self.target s put → Loaded self put
+            → IfOk result (λ download. Filling D.seen D.may_leave
+            download.disk download.header download.target s (put ++ piece.now)) }
+        ensures loaded { (put : List ℕ) → Loaded self put
+            → IfOk result (λ download. Loaded download (put ++ piece.now)) }
+        ensures rig { Makes (put_calls piece.now self.header.room self.target self.have self.size)
+            (D.rig self.disk) (D.rig (put_disk result)) (put_faults result) }
+        ensures outcome { (r : Rigged) (s : SlotPair) (put : List ℕ) → D.rig self.disk ≡ Some r
+            → Filling D.seen D.may_leave self.disk self.header self.target s put → Loaded self put
+            → Leaves (StandsAt self.header.room) Keep s r.trap (D.rig (put_disk result)) }
+        ensures gates { (r : Rigged) (s : SlotPair) (put : List ℕ) → D.rig self.disk ≡ Some r
+            → Filling D.seen D.may_leave self.disk self.header self.target s put → Loaded self put
+            → RigHolds GatesHold s r → Leaves GatesHold Keep s r.trap (D.rig (put_disk result)) }
+        ensures length { (s : SlotPair) (put : List ℕ) (size : ℕ)
+            → Filling D.seen D.may_leave self.disk self.header self.target s put → Loaded self put
+            → HasLength D.may_leave size self.disk → HasLength D.may_leave size (put_disk result) }
         ensures told { IsSome (D.seen self.disk) → IsSome (D.seen (put_disk result)) }
-        ensures cause { put_faults result ≡ true → Rose (D.faults self.disk) (D.faults (put_disk result)) }
+        ensures cause { put_faults result ≡ true
+            → Rose (D.faults self.disk) (D.faults (put_disk result)) }
         ensures kept { put_faults result ≡ false → D.faults (put_disk result) ≡ D.faults self.disk }
         ensures refused { IfErr result (PutRefused self (length piece.now)) }
         ensures tested { OnOk result (self.have + length piece.now ≤ self.size) }
-        ensures went { IfOk result (λ download. (download.header ≡ self.header) × (download.target ≡ self.target) × (download.size ≡ self.size) × (download.have ≡ self.have + length piece.now)) }
+        ensures went { IfOk result (λ download.
+            (download.header ≡ self.header) × (download.target ≡ self.target)
+            × (download.size ≡ self.size) × (download.have ≡ self.have + length piece.now)) }
     {
         let mut download = self;
         let more = piece.len() as u64;
@@ -182,8 +200,13 @@ impl<D: Disk> Download<D> {
     pub fn abandon(self) -> Slots<D>
         ensures disk { result.disk ≡ self.disk }
         ensures header { result.header ≡ self.header }
-        ensures settled { (s : SlotPair) (put : List ℕ) → Filling D.seen D.may_leave self.disk self.header self.target s put → Settled D.seen D.may_leave result.disk result.header s }
-        ensures moments { (s : SlotPair) (put : List ℕ) → Filling D.seen D.may_leave self.disk self.header self.target s put → Moments D.clock D.left_since D.may_leave self.disk result.disk (StandsAmong self.header.room (mid Keep s)) }
+        ensures settled { (s : SlotPair) (put : List ℕ)
+            → Filling D.seen D.may_leave self.disk self.header self.target s put
+            → Settled D.seen D.may_leave result.disk result.header s }
+        ensures moments { (s : SlotPair) (put : List ℕ)
+            → Filling D.seen D.may_leave self.disk self.header self.target s put
+            → Moments D.clock D.left_since D.may_leave self.disk result.disk
+            (StandsAmong self.header.room (mid Keep s)) }
     {
         Slots {
             disk: self.disk,
@@ -196,18 +219,45 @@ impl<D: Disk> Download<D> {
     /// the gate is opened and synced, by calls 3 and 4.
     #[tactic(auto, unfolding(slot_spec::specs::Rig::after_calls, slot_spec::specs::Rig::calls_fail))]
     pub fn seal(self, crc: u32, size: u32) -> Result<Slots<D>, SealRefusal<D>>
-        ensures moments { (s : SlotPair) (put : List ℕ) → Filling D.seen D.may_leave self.disk self.header self.target s put → Loaded self put → Moments D.clock D.left_since D.may_leave self.disk (seal_disk result) (StandsAmong self.header.room (mid (seal_change crc size self.target self.have self.size self.crc put) s)) }
-        ensures settled { (s : SlotPair) (put : List ℕ) → Filling D.seen D.may_leave self.disk self.header self.target s put → Loaded self put → IfOk result (λ slots. Settled D.seen D.may_leave slots.disk slots.header (with_image self.target (Some put) s)) }
-        ensures rig { Makes (seal_calls crc size self.target self.have self.size self.crc self.version) (D.rig self.disk) (D.rig (seal_disk result)) (seal_faults result) }
-        ensures outcome { (r : Rigged) (s : SlotPair) (put : List ℕ) → D.rig self.disk ≡ Some r → Filling D.seen D.may_leave self.disk self.header self.target s put → Loaded self put → Leaves (StandsAt self.header.room) (seal_change crc size self.target self.have self.size self.crc put) s r.trap (D.rig (seal_disk result)) }
-        ensures gates { (r : Rigged) (s : SlotPair) (put : List ℕ) → D.rig self.disk ≡ Some r → Filling D.seen D.may_leave self.disk self.header self.target s put → Loaded self put → RigHolds GatesHold s r → Leaves GatesHold (seal_change crc size self.target self.have self.size self.crc put) s r.trap (D.rig (seal_disk result)) }
-        ensures length { (s : SlotPair) (put : List ℕ) (size : ℕ) → Filling D.seen D.may_leave self.disk self.header self.target s put → HasLength D.may_leave size self.disk → HasLength D.may_leave size (seal_disk result) }
+        ensures moments { (s : SlotPair) (put : List ℕ)
+            → Filling D.seen D.may_leave self.disk self.header self.target s put → Loaded self put
+            → Moments D.clock D.left_since D.may_leave self.disk (seal_disk result)
+            (StandsAmong self.header.room
+            (mid (seal_change crc size self.target self.have self.size self.crc put) s)) }
+        ensures settled { (s : SlotPair) (put : List ℕ)
+            → Filling D.seen D.may_leave self.disk self.header self.target s put → Loaded self put
+            → IfOk result (λ slots. Settled D.seen D.may_leave slots.disk slots.header
+            (with_image self.target (Some put) s)) }
+        ensures rig { Makes
+            (seal_calls crc size self.target self.have self.size self.crc self.version)
+            (D.rig self.disk) (D.rig (seal_disk result)) (seal_faults result) }
+        ensures outcome { (r : Rigged) (s : SlotPair) (put : List ℕ) → D.rig self.disk ≡ Some r
+            → Filling D.seen D.may_leave self.disk self.header self.target s put → Loaded self put
+            → Leaves (StandsAt self.header.room)
+            (seal_change crc size self.target self.have self.size self.crc put) s r.trap
+            (D.rig (seal_disk result)) }
+        ensures gates { (r : Rigged) (s : SlotPair) (put : List ℕ) → D.rig self.disk ≡ Some r
+            → Filling D.seen D.may_leave self.disk self.header self.target s put → Loaded self put
+            → RigHolds GatesHold s r
+            → Leaves GatesHold
+            (seal_change crc size self.target self.have self.size self.crc put) s r.trap
+            (D.rig (seal_disk result)) }
+        ensures length { (s : SlotPair) (put : List ℕ) (size : ℕ)
+            → Filling D.seen D.may_leave self.disk self.header self.target s put
+            → HasLength D.may_leave size self.disk → HasLength D.may_leave size (seal_disk result) }
         ensures told { IsSome (D.seen self.disk) → IsSome (D.seen (seal_disk result)) }
-        ensures cause { seal_faults result ≡ true → Rose (D.faults self.disk) (D.faults (seal_disk result)) }
-        ensures kept { seal_faults result ≡ false → D.faults (seal_disk result) ≡ D.faults self.disk }
+        ensures cause { seal_faults result ≡ true
+            → Rose (D.faults self.disk) (D.faults (seal_disk result)) }
+        ensures kept { seal_faults result ≡ false
+            → D.faults (seal_disk result) ≡ D.faults self.disk }
         ensures refused { IfErr result (SealRefused self crc size) }
-        ensures tested { OnOk result ((self.have ≡ self.size) × (size ≡ self.have) × (crc ≡ self.crc)) }
-        ensures header { IfOk result (λ slots. slots.header ≡ with_slot_header self.target (record { opened = true; view = Some (record { length = size; crc = crc; version = self.version }) }) self.header) }
+        ensures tested { OnOk result
+            ((self.have ≡ self.size) × (size ≡ self.have) × (crc ≡ self.crc)) }
+        ensures header { IfOk result (λ slots. slots.header ≡ with_slot_header self.target
+            (record {
+              opened = true;
+              view = Some (record { length = size; crc = crc; version = self.version });
+            }) self.header) }
     {
         let mut download = self;
         let have = download.have;
@@ -240,14 +290,24 @@ impl<D: Disk> Download<D> {
 
 // Opens the gate: the last step of a seal, once the entry and the image are on the disk.
 fn open<D: Disk>(download: Download<D>, length: u32, crc: u32) -> Result<Slots<D>, SealRefusal<D>>
-    ensures moments { Moments D.clock D.left_since D.may_leave download.disk (seal_disk result) (TornFrom (gate_place download.target) 1 (D.may_leave download.disk)) }
-    ensures stored { (was : List ℕ) → D.seen download.disk ≡ Some was → IfOk result (λ slots. Stored D.seen D.may_leave (gate_place download.target) (open_gate ∷ []) was slots.disk) }
-    ensures header { IfOk result (λ slots. slots.header ≡ with_slot_header download.target (record { opened = true; view = Some (record { length = length; crc = crc; version = download.version }) }) download.header) }
-    ensures rig { Makes (Write (gate_place download.target) (open_gate ∷ []) ∷ Sync ∷ []) (D.rig download.disk) (D.rig (seal_disk result)) (seal_faults result) }
+    ensures moments { Moments D.clock D.left_since D.may_leave download.disk (seal_disk result)
+        (TornFrom (gate_place download.target) 1 (D.may_leave download.disk)) }
+    ensures stored { (was : List ℕ) → D.seen download.disk ≡ Some was
+        → IfOk result (λ slots. Stored D.seen D.may_leave (gate_place download.target)
+        (open_gate ∷ []) was slots.disk) }
+    ensures header { IfOk result (λ slots. slots.header ≡ with_slot_header download.target
+        (record {
+          opened = true;
+          view = Some (record { length = length; crc = crc; version = download.version });
+        }) download.header) }
+    ensures rig { Makes (Write (gate_place download.target) (open_gate ∷ []) ∷ Sync ∷ [])
+        (D.rig download.disk) (D.rig (seal_disk result)) (seal_faults result) }
     ensures told { IsSome (D.seen download.disk) → IsSome (D.seen (seal_disk result)) }
     ensures later { D.faults download.disk ≤ D.faults (seal_disk result) }
-    ensures rose { seal_faults result ≡ true → Rose (D.faults download.disk) (D.faults (seal_disk result)) }
-    ensures kept { seal_faults result ≡ false → D.faults (seal_disk result) ≡ D.faults download.disk }
+    ensures rose { seal_faults result ≡ true
+        → Rose (D.faults download.disk) (D.faults (seal_disk result)) }
+    ensures kept { seal_faults result ≡ false
+        → D.faults (seal_disk result) ≡ D.faults download.disk }
     ensures refused { IfErr result IsSealFault }
 {
     let mut download = download;
@@ -282,10 +342,12 @@ impl<D: Rig> Download<D> {
         requires trap { IsTrap trap }
         ensures state { self.new ≡ record self.old { disk = self.new.disk } }
         ensures seen { D.seen self.new.disk ≡ D.seen self.old.disk }
-        ensures moments { Moments D.clock D.left_since D.may_leave self.old.disk self.new.disk (D.may_leave self.old.disk) }
+        ensures moments { Moments D.clock D.left_since D.may_leave self.old.disk self.new.disk
+            (D.may_leave self.old.disk) }
         ensures clock { D.clock self.new.disk ≡ D.clock self.old.disk }
         ensures faults { D.faults self.new.disk ≡ D.faults self.old.disk }
-        ensures trap { (r : Rigged) → D.rig self.old.disk ≡ Some r → D.rig self.new.disk ≡ Some (record r { trap = trap }) }
+        ensures trap { (r : Rigged) → D.rig self.old.disk ≡ Some r
+            → D.rig self.new.disk ≡ Some (record r { trap = trap }) }
     {
         self.disk.rig(trap);
     }

@@ -102,7 +102,8 @@ impl<D: Disk> Slots<D> {
     pub fn view(&self, slot: u8) -> Option<SlotView>
         requires slot { slot < 2 }
         ensures view { result ≡ view_at slot self.now.header }
-        ensures shows { (s : SlotPair) → Settled D.seen D.may_leave self.now.disk self.now.header s → result ≡ option_map view_of (image_at slot s) }
+        ensures shows { (s : SlotPair) → Settled D.seen D.may_leave self.now.disk self.now.header s
+            → result ≡ option_map view_of (image_at slot s) }
     {
         slot_header(&self.header, slot).view
     }
@@ -120,18 +121,35 @@ impl<D: Disk> Slots<D> {
     #[tactic(auto, unfolding(slot_spec::specs::Rig::after_calls, slot_spec::specs::Rig::calls_fail))]
     pub fn commit(self, slot: u8) -> Result<Slots<D>, CommitRefusal<D>>
         requires slot { slot < 2 }
-        ensures moments { (s : SlotPair) → Settled D.seen D.may_leave self.disk self.header s → Moments D.clock D.left_since D.may_leave self.disk (commit_disk result) (StandsAmong self.header.room (mid (commit_change slot self.header) s)) }
-        ensures settled { (s : SlotPair) → Settled D.seen D.may_leave self.disk self.header s → IfOk result (λ slots. Settled D.seen D.may_leave slots.disk slots.header (with_committed slot s)) }
-        ensures rig { Makes (commit_calls slot self.header) (D.rig self.disk) (D.rig (commit_disk result)) (commit_faults result) }
-        ensures outcome { (r : Rigged) (s : SlotPair) → D.rig self.disk ≡ Some r → Settled D.seen D.may_leave self.disk self.header s → Leaves (StandsAt self.header.room) (commit_change slot self.header) s r.trap (D.rig (commit_disk result)) }
-        ensures gates { (r : Rigged) (s : SlotPair) → D.rig self.disk ≡ Some r → Settled D.seen D.may_leave self.disk self.header s → RigHolds GatesHold s r → Leaves GatesHold (commit_change slot self.header) s r.trap (D.rig (commit_disk result)) }
-        ensures length { (s : SlotPair) (size : ℕ) → Settled D.seen D.may_leave self.disk self.header s → HasLength D.may_leave size self.disk → HasLength D.may_leave size (commit_disk result) }
+        ensures moments { (s : SlotPair) → Settled D.seen D.may_leave self.disk self.header s
+            → Moments D.clock D.left_since D.may_leave self.disk (commit_disk result)
+            (StandsAmong self.header.room (mid (commit_change slot self.header) s)) }
+        ensures settled { (s : SlotPair) → Settled D.seen D.may_leave self.disk self.header s
+            → IfOk result (λ slots. Settled D.seen D.may_leave slots.disk slots.header
+            (with_committed slot s)) }
+        ensures rig { Makes (commit_calls slot self.header) (D.rig self.disk)
+            (D.rig (commit_disk result)) (commit_faults result) }
+        ensures outcome { (r : Rigged) (s : SlotPair) → D.rig self.disk ≡ Some r
+            → Settled D.seen D.may_leave self.disk self.header s
+            → Leaves (StandsAt self.header.room) (commit_change slot self.header) s r.trap
+            (D.rig (commit_disk result)) }
+        ensures gates { (r : Rigged) (s : SlotPair) → D.rig self.disk ≡ Some r
+            → Settled D.seen D.may_leave self.disk self.header s → RigHolds GatesHold s r
+            → Leaves GatesHold (commit_change slot self.header) s r.trap
+            (D.rig (commit_disk result)) }
+        ensures length { (s : SlotPair) (size : ℕ)
+            → Settled D.seen D.may_leave self.disk self.header s
+            → HasLength D.may_leave size self.disk
+            → HasLength D.may_leave size (commit_disk result) }
         ensures told { IsSome (D.seen self.disk) → IsSome (D.seen (commit_disk result)) }
-        ensures cause { commit_faults result ≡ true → Rose (D.faults self.disk) (D.faults (commit_disk result)) }
-        ensures kept { commit_faults result ≡ false → D.faults (commit_disk result) ≡ D.faults self.disk }
+        ensures cause { commit_faults result ≡ true
+            → Rose (D.faults self.disk) (D.faults (commit_disk result)) }
+        ensures kept { commit_faults result ≡ false
+            → D.faults (commit_disk result) ≡ D.faults self.disk }
         ensures refused { IfErr result (CommitRefused self slot) }
         ensures valid { OnOk result (IsSome (view_at slot self.header)) }
-        ensures header { IfOk result (λ slots. slots.header ≡ record self.header { committed = slot }) }
+        ensures header { IfOk result
+            (λ slots. slots.header ≡ record self.header { committed = slot }) }
     {
         let mut slots = self;
         if slots.view(slot).is_none() {
@@ -158,20 +176,38 @@ impl<D: Disk> Slots<D> {
     #[tactic(auto, unfolding(slot_spec::specs::Rig::after_calls, slot_spec::specs::Rig::calls_fail))]
     pub fn begin(self, slot: u8, size: u32) -> Result<Download<D>, BeginRefusal<D>>
         requires slot { slot < 2 }
-        ensures moments { (s : SlotPair) → Settled D.seen D.may_leave self.disk self.header s → Moments D.clock D.left_since D.may_leave self.disk (begin_disk result) (StandsAmong self.header.room (mid (begin_change slot size self.header) s)) }
-        ensures filling { (s : SlotPair) → Settled D.seen D.may_leave self.disk self.header s → IfOk result (λ download. Filling D.seen D.may_leave download.disk download.header slot (with_image slot None s) []) }
+        ensures moments { (s : SlotPair) → Settled D.seen D.may_leave self.disk self.header s
+            → Moments D.clock D.left_since D.may_leave self.disk (begin_disk result)
+            (StandsAmong self.header.room (mid (begin_change slot size self.header) s)) }
+        ensures filling { (s : SlotPair) → Settled D.seen D.may_leave self.disk self.header s
+            → IfOk result (λ download. Filling D.seen D.may_leave
+            download.disk download.header slot (with_image slot None s) []) }
         ensures loaded { IfOk result (λ download. Loaded download []) }
-        ensures rig { Makes (begin_calls slot size self.header) (D.rig self.disk) (D.rig (begin_disk result)) (begin_faults result) }
-        ensures outcome { (r : Rigged) (s : SlotPair) → D.rig self.disk ≡ Some r → Settled D.seen D.may_leave self.disk self.header s → Leaves (StandsAt self.header.room) (begin_change slot size self.header) s r.trap (D.rig (begin_disk result)) }
-        ensures gates { (r : Rigged) (s : SlotPair) → D.rig self.disk ≡ Some r → Settled D.seen D.may_leave self.disk self.header s → RigHolds GatesHold s r → Leaves GatesHold (begin_change slot size self.header) s r.trap (D.rig (begin_disk result)) }
-        ensures length { (s : SlotPair) (size : ℕ) → Settled D.seen D.may_leave self.disk self.header s → HasLength D.may_leave size self.disk → HasLength D.may_leave size (begin_disk result) }
+        ensures rig { Makes (begin_calls slot size self.header) (D.rig self.disk)
+            (D.rig (begin_disk result)) (begin_faults result) }
+        ensures outcome { (r : Rigged) (s : SlotPair) → D.rig self.disk ≡ Some r
+            → Settled D.seen D.may_leave self.disk self.header s
+            → Leaves (StandsAt self.header.room) (begin_change slot size self.header) s r.trap
+            (D.rig (begin_disk result)) }
+        ensures gates { (r : Rigged) (s : SlotPair) → D.rig self.disk ≡ Some r
+            → Settled D.seen D.may_leave self.disk self.header s → RigHolds GatesHold s r
+            → Leaves GatesHold (begin_change slot size self.header) s r.trap
+            (D.rig (begin_disk result)) }
+        ensures length { (s : SlotPair) (size : ℕ)
+            → Settled D.seen D.may_leave self.disk self.header s
+            → HasLength D.may_leave size self.disk
+            → HasLength D.may_leave size (begin_disk result) }
         ensures told { IsSome (D.seen self.disk) → IsSome (D.seen (begin_disk result)) }
-        ensures cause { begin_faults result ≡ true → Rose (D.faults self.disk) (D.faults (begin_disk result)) }
-        ensures kept { begin_faults result ≡ false → D.faults (begin_disk result) ≡ D.faults self.disk }
+        ensures cause { begin_faults result ≡ true
+            → Rose (D.faults self.disk) (D.faults (begin_disk result)) }
+        ensures kept { begin_faults result ≡ false
+            → D.faults (begin_disk result) ≡ D.faults self.disk }
         ensures refused { IfErr result (BeginRefused self slot size) }
-        ensures tested { OnOk result ((slot ≡ self.header.committed → ⊥) × (1 ≤ size) × (size ≤ self.header.room)) }
+        ensures tested { OnOk result
+            ((slot ≡ self.header.committed → ⊥) × (1 ≤ size) × (size ≤ self.header.room)) }
         ensures empty { IfOk result (IsEmpty slot size) }
-        ensures header { IfOk result (λ download. download.header ≡ with_slot_header slot shut_header self.header) }
+        ensures header { IfOk result
+            (λ download. download.header ≡ with_slot_header slot shut_header self.header) }
     {
         let mut slots = self;
         if slot == slots.header.committed {
@@ -232,10 +268,12 @@ impl<D: Rig> Slots<D> {
         requires trap { IsTrap trap }
         ensures header { self.new.header ≡ self.old.header }
         ensures seen { D.seen self.new.disk ≡ D.seen self.old.disk }
-        ensures moments { Moments D.clock D.left_since D.may_leave self.old.disk self.new.disk (D.may_leave self.old.disk) }
+        ensures moments { Moments D.clock D.left_since D.may_leave self.old.disk self.new.disk
+            (D.may_leave self.old.disk) }
         ensures clock { D.clock self.new.disk ≡ D.clock self.old.disk }
         ensures faults { D.faults self.new.disk ≡ D.faults self.old.disk }
-        ensures trap { (r : Rigged) → D.rig self.old.disk ≡ Some r → D.rig self.new.disk ≡ Some (record r { trap = trap }) }
+        ensures trap { (r : Rigged) → D.rig self.old.disk ≡ Some r
+            → D.rig self.new.disk ≡ Some (record r { trap = trap }) }
     {
         self.disk.rig(trap);
     }
@@ -246,10 +284,12 @@ impl<D: Rig> Broken<D> {
     pub fn rig(&mut self, trap: Trap)
         requires trap { IsTrap trap }
         ensures seen { D.seen self.new.disk ≡ D.seen self.old.disk }
-        ensures moments { Moments D.clock D.left_since D.may_leave self.old.disk self.new.disk (D.may_leave self.old.disk) }
+        ensures moments { Moments D.clock D.left_since D.may_leave self.old.disk self.new.disk
+            (D.may_leave self.old.disk) }
         ensures clock { D.clock self.new.disk ≡ D.clock self.old.disk }
         ensures faults { D.faults self.new.disk ≡ D.faults self.old.disk }
-        ensures trap { (r : Rigged) → D.rig self.old.disk ≡ Some r → D.rig self.new.disk ≡ Some (record r { trap = trap }) }
+        ensures trap { (r : Rigged) → D.rig self.old.disk ≡ Some r
+            → D.rig self.new.disk ≡ Some (record r { trap = trap }) }
     {
         self.disk.rig(trap);
     }

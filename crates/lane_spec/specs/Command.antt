@@ -7,10 +7,13 @@ use Rattle.message_spec.specs.declared.Request.{Request}
 use Rattle.message_spec.specs.declared.Request.TheVariants as request
 use Rattle.message_spec.specs.Reading.{plain}
 use Rattle.frame_spec.specs.Baseline.{spelling}
+use Rattle.lane_spec.specs.declared.Purpose.{Purpose}
+use Rattle.lane_spec.specs.declared.Purpose.TheVariants as purpose
 
--- The request that is asked of an entity. A probe is a get of MIB data sync that proves the lane by any answer.
+-- The request that is asked of an entity, and why. A probe is a get of MIB data sync that proves the
+-- lane by any answer.
 pub record Command : Type 0 where
-  pub probe : Bool
+  pub purpose : Purpose
   pub entity : EntityId
   pub request : Request
 
@@ -22,11 +25,25 @@ abbrev pub sync_request : Request
 sync_request = request.Get 0x8000
 
 abbrev pub probe_command : Command
-probe_command = record { probe = true; entity = sync_entity; request = sync_request }
+probe_command = record { purpose = purpose.Probe; entity = sync_entity; request = sync_request }
 
--- a request for an entity
+-- a request for an entity, which a caller submits
 abbrev pub ask : EntityId → Request → Command
-ask entity r = record { probe = false; entity = entity; request = r }
+ask entity r = record { purpose = purpose.Submission; entity = entity; request = r }
+
+-- a get of MIB data sync, for the counter's sake
+abbrev pub check_command : Command
+check_command = record { purpose = purpose.Check; entity = sync_entity; request = sync_request }
+
+-- a request of the running job
+abbrev pub job_command : EntityId → Request → Command
+job_command entity r = record { purpose = purpose.Job; entity = entity; request = r }
+
+abbrev pub is_probe : Purpose → Bool
+is_probe purpose.Probe = true
+is_probe purpose.Submission = false
+is_probe purpose.Check = false
+is_probe purpose.Job = false
 
 -- the command's frame under a TCI
 unfoldable pub command_frame : ℕ → Command → Frame
@@ -45,7 +62,7 @@ is_response asked f = (f.kind + 0x20 == asked.kind) && same_entity f.entity aske
 
 -- Whether a frame answers a command that has that TCI. A probe is answered by every frame under its TCI.
 abbrev pub answers : ℕ → Command → Frame → Bool
-answers tci c f = (f.tci == tci) && (c.probe || is_response (command_frame tci c) f)
+answers tci c f = (f.tci == tci) && (is_probe c.purpose || is_response (command_frame tci c) f)
 
 -- whether a request changes what the unit holds or runs
 abbrev pub is_changing : Request → Bool

@@ -7,7 +7,7 @@ use Rattle.tci_spec.specs.Tci.{number_after, tci_of}
 use Rattle.lane_spec.specs.declared.LaneTick.{LaneTick}
 use Rattle.lane_spec.specs.declared.LaneTick.TheVariants.{Quiet, Repeat, GaveUp}
 use Rattle.lane_spec.specs.declared.TheConstants.{LOW_TIMEOUT, HIGH_TIMEOUT, MOST_REPEATS}
-use Rattle.lane_spec.specs.Command.{Command, command_packets, is_changing, answers}
+use Rattle.lane_spec.specs.Command.{Command, command_packets, is_changing, is_probe, answers}
 
 -- A command that waits for its reply: the seconds since it was last sent, and how many times it was sent again.
 pub record Waiting : Type 0 where
@@ -41,7 +41,7 @@ with_command c l =
 -- whether the command that waits is a probe
 abbrev pub is_probing : Option Waiting → Bool
 is_probing None = false
-is_probing (Some w) = w.command.probe
+is_probing (Some w) = is_probe w.command.purpose
 
 -- whether the command that waits changes what the unit holds or runs
 abbrev pub is_changed_by : Option Waiting → Bool
@@ -94,11 +94,12 @@ pub record Replied : Type 0 where
   pub taken : Bool
 
 -- the outstanding command is answered; an answered probe proves the lane
-abbrev pub ended : Waiting → Lane → Lane
-ended w l = record l { proved = w.command.probe || l.proved; outstanding = None }
+abbrev pub end_command : Waiting → Lane → Lane
+end_command w l =
+    record l { proved = is_probe w.command.purpose || l.proved; outstanding = None }
 
 abbrev pub reply_by : Bool → Waiting → Lane → Replied
-reply_by true w l = record { lane = ended w l; taken = true }
+reply_by true w l = record { lane = end_command w l; taken = true }
 reply_by false w l = record { lane = l; taken = false }
 
 abbrev pub reply_to : Option Waiting → Frame → Lane → Replied

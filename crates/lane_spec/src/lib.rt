@@ -21,3 +21,16 @@ pub enum LaneTick {
     /// The outstanding command, which had this TCI, is given up, and the lane is no longer proved.
     GaveUp { tci: u16 },
 }
+
+/// Why the manager sends a command, and so what becomes of its reply.
+#[derive(Clone, Copy, Debug, PartialEq, Eq)]
+pub enum Purpose {
+    /// A probe: any frame under its TCI is its reply, and proves the lane.
+    Probe,
+    /// A caller submitted it, and gets its reply.
+    Submission,
+    /// It asks for the unit's counter, which is compared with the copy's.
+    Check,
+    /// The running job sent it.
+    Job,
+}

@@ -1,6 +1,6 @@
 //! One lane of the manager.
 
-use olt_lanes::{Command, EntityId, Frame, Lane, LaneTick, Packets, Priority, Request};
+use olt_lanes::{Command, EntityId, Frame, Lane, LaneTick, Packets, Priority, Purpose, Request};
 use omci_contents::read_message;
 use omci_frames::packet_frame;
 use std::test::Fail;
@@ -17,6 +17,14 @@ fn response(tci: u16, kind: u8, entity: EntityId) -> Frame {
         kind,
         entity,
         contents: [0; 32],
+    }
+}
+
+/// Why the outstanding command was sent.
+fn purpose(lane: &Lane) -> Option<Purpose> {
+    match lane.command() {
+        None => None,
+        Some(command) => Some(command.purpose()),
     }
 }
 
@@ -69,7 +77,7 @@ fn a_reply_has_tci_type_and_entity(rt: HostRuntime) {
         send(&mut lane, Command::ask(BRIDGE, Request::Delete)),
         Some(5)
     );
-    assert!(rt; lane.is_changing() && !lane.is_probing());
+    assert!(rt; lane.is_changing() && purpose(&lane) == Some(Purpose::Submission));
     let other = EntityId {
         instance: 2,
         ..BRIDGE
@@ -87,7 +95,7 @@ fn a_reply_has_tci_type_and_entity(rt: HostRuntime) {
     assert_eq!(rt; lane.outstanding(), Some(5));
     assert!(rt; lane.reply(&response(5, 0x26, BRIDGE)));
     assert!(rt; lane.outstanding().is_none() && lane.unproven());
-    assert!(rt; !lane.is_changing() && !lane.is_probing());
+    assert!(rt; !lane.is_changing() && purpose(&lane).is_none());
     assert!(rt; !lane.reply(&response(5, 0x26, BRIDGE)));
 }
 
@@ -98,7 +106,7 @@ fn packets_are_the_frames_of_the_command(rt: HostRuntime) -> Result<(), Fail> {
     lane.packets(&mut out)?;
     assert!(rt; out.is_empty());
     assert_eq!(rt; send(&mut lane, Command::probe()), Some(0x8001));
-    assert!(rt; lane.is_probing() && !lane.is_changing());
+    assert!(rt; purpose(&lane) == Some(Purpose::Probe) && !lane.is_changing());
     lane.packets(&mut out)?;
     lane.packets(&mut out)?;
     assert!(rt; out.len() == 2);
@@ -112,4 +120,34 @@ fn packets_are_the_frames_of_the_command(rt: HostRuntime) -> Result<(), Fail> {
     assert_eq!(rt; frame.contents[1], 0);
     assert!(rt; read_message(&frame).is_ok());
     Ok(())
+}
+
+#[test]
+fn a_job_and_a_check_prove_no_lane(rt: HostRuntime) {
+    let mut lane = Lane::new(Priority::Low, 1);
+    assert_eq!(rt; send(&mut lane, Command::check()), Some(1));
+    let Some(command) = lane.command() else {
+        panic!(rt; "nothing is outstanding");
+    };
+    assert_eq!(rt; command.purpose(), Purpose::Check);
+    assert_eq!(rt; command.entity().class, 2);
+    assert_eq!(rt; command.request(), Request::Get { mask: 0x8000 });
+    assert!(rt; !lane.reply(&response(1, 0x29, BRIDGE)));
+    assert!(rt;
+        lane.reply(&response(
+            1,
+            0x29,
+            EntityId {
+                class: 2,
+                instance: 0
+            }
+        ))
+    );
+    assert!(rt; lane.unproven() && lane.command().is_none());
+    assert_eq!(rt;
+        send(&mut lane, Command::job(BRIDGE, Request::Upload)),
+        Some(2)
+    );
+    assert_eq!(rt; purpose(&lane), Some(Purpose::Job));
+    assert!(rt; lane.reply(&response(2, 0x2d, BRIDGE)) && lane.unproven());
 }

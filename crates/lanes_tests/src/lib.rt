@@ -1,4 +1,5 @@
-//! Tests of the kept replies, the link and the manager's lanes, called from outside. The crate has tests alone.
+//! Tests of the kept replies, the link and the manager's lanes, called from outside. The crate has
+//! tests alone.
 #![tactic(auto)]
 
 #[cfg(test)]

@@ -4,7 +4,8 @@ use link_lanes::{Lanes, NoMemory, Packet};
 use std::alloc::Global;
 use std::test::Fail;
 
-/// A packet of this length whose TCI has the top bit where it is high, and whose other bytes are this number's last.
+/// A packet of this length whose TCI has the top bit where it is high, and whose other bytes are
+/// this number's last.
 fn packet(high: bool, number: u64, length: usize) -> Packet {
     let mut bytes = [(number % 251) as u8; 1_980];
     bytes[0] = if high { 0x80 } else { 0 };
@@ -104,7 +105,8 @@ fn a_start_empties_the_link(rt: HostRuntime) -> Result<(), Fail> {
     Ok(())
 }
 
-// Short packets and long ones in turn, so that the two rings come round their ends at different places.
+// Short packets and long ones in turn, so that the two rings come round their ends at different
+// places.
 #[test]
 fn the_last_packets_are_held_and_no_more(rt: HostRuntime) -> Result<(), Fail> {
     let mut lanes = Lanes::new(rt.alloc())?;

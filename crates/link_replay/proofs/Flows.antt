@@ -1,21 +1,20 @@
 -- Deliveries one after the other: what has happened so far, and what is left.
-use Rattle.std.proofs.Common.{◌≡◌, ℕ, zero, suc, ◌+◌, ◌-◌, Bool, List, [], ◌∷◌, ◌++◌, Option, Some, None, is_some, refl, sym, ◌∙◌, ap, append_assoc}
+use Rattle.std.proofs.Common.{◌≡◌, ℕ, zero, suc, ◌+◌, List, [], ◌∷◌, ◌++◌, Option, Some, None, is_some, refl, sym, ◌∙◌, ap, append_assoc}
 use Rattle.std.proofs.lemmas.List.{append-nil}
-use Rattle.unit_spec.specs.declared.Did.{Did}
-use Rattle.unit_spec.specs.declared.Did.TheVariants as did
-use Rattle.unit_spec.specs.Onu.{Onu, onu_received}
+use Rattle.unit_spec.specs.Onu.{Onu}
 use Rattle.link_spec.specs.declared.Direction.{Direction}
 use Rattle.link_spec.specs.declared.Direction.TheVariants.{Down, Up}
-use Rattle.link_spec.specs.Link.{Sent, Link, count, allowed, fresh}
+use Rattle.link_spec.specs.Link.{Sent, Link, count, allowed}
 use Rattle.link_spec.specs.Held.{Held, held_of, held_allowed, held_fresh, held_sent}
 use Rattle.link_laws.proofs.Held.{held_of-allowed, held_of-fresh, held_of-sent, held_of-delivered, held_of-emptied}
 use Rattle.manager_spec.specs.declared.Refusal.{Refusal}
-use Rattle.manager_spec.specs.Manager.{Manager, Outcome, Submission}
-use Rattle.script_spec.specs.Script.{Action, Probe, Reset, Get, Create, Set, Delete, Deliver, Flow, NoiseUnit, NoiseOlt, Tick, CutUnit, CutOlt, StartUnit, StartOlt}
-use Rattle.world_spec.specs.Happenings.{Happening, UnitStarted, ManagerStarted, PacketCame, PacketSent, UnitCarried, UnitKept, UnitDropped, CommandDrawn, Reported, Refused, NotEnabled, on_link, link_read, on_held, held_read, next_after, next_after_all}
-use Rattle.world_spec.specs.Ends.{Ends, Step, still, unit_got, manager_got, arrives, arrives_at, noise, second, manager_ticks, submission, submitted_as, cut_unit, cut_manager, start_unit, start_manager}
-use Rattle.world_spec.specs.Nodes.{Nodes, delivered_one, delivered, nodes_after_step, goes_on, flow_from, oldest_fresh, flow, acted, counted, step}
-use Rattle.world_spec.specs.Trace.{line_if, effect_of, lines_text, turn_text}
+use Rattle.manager_spec.specs.Manager.{Manager, Outcome}
+use Rattle.manager_spec.specs.Submitting.{Submission}
+use Rattle.script_spec.specs.Script.{Action, Probe, Reset, Get, Create, Set, Delete, Resync, Check, Deliver, Flow, NoiseUnit, NoiseOlt, Tick, CutUnit, CutOlt, StartUnit, StartOlt}
+use Rattle.world_spec.specs.Happenings.{Happening, UnitStarted, ManagerStarted, PacketCame, PacketSent, on_link, link_read, on_held, held_read, next_after, next_after_all}
+use Rattle.world_spec.specs.Ends.{Ends, Step, still, unit_got, manager_got, arrives, arrives_at, noise, second, manager_ticks, unit_ticks, submission, submission_by, cut_unit, cut_manager, start_unit, start_manager}
+use Rattle.world_spec.specs.Nodes.{Nodes, delivery_of, delivery, nodes_after_step, goes_on, flow_from, oldest_fresh, flow, acted, next_event, step}
+use Rattle.world_spec.specs.Trace.{happening_text, lines_text, turn_text}
 use Rattle.link_replay.specs.Seen.{Seen, Shown, shown, followed, seen_of}
 
 -- ---- the readings of what happens, one part after the other
@@ -27,7 +26,7 @@ link_both (x ∷ xs) ys l = link_both xs ys (on_link x l)
 pub lines_both : (event next : ℕ) (xs ys : List Happening) → lines_text event next (xs ++ ys) ≡ lines_text event next xs ++ lines_text event (next_after_all xs next) ys
 lines_both event next [] ys = refl
 lines_both event next (x ∷ xs) ys =
-    let line = line_if event (effect_of next x) in
+    let line = happening_text event next x in
     ap (λ t. line ++ t) (lines_both event (next_after x next) xs ys)
     ∙ sym (append_assoc line (lines_text event (next_after x next) xs) (lines_text event (next_after_all xs (next_after x next)) ys))
 
@@ -40,13 +39,7 @@ on_held_of (UnitStarted life software) l = held_of-emptied l
 on_held_of ManagerStarted l = held_of-emptied l
 on_held_of (PacketCame number packet) l = held_of-delivered number packet l
 on_held_of (PacketSent whose packet) l = held_of-sent packet l
-on_held_of (UnitCarried life reply before) l = refl
-on_held_of UnitKept l = refl
-on_held_of UnitDropped l = refl
-on_held_of (CommandDrawn lane) l = refl
-on_held_of (Reported report) l = refl
-on_held_of (Refused refusal) l = refl
-on_held_of NotEnabled l = refl
+on_held_of _ l = refl
 
 -- what is held of the link is read as the link is
 pub held_reads : (xs : List Happening) (l : Link) → held_of (link_read xs l) ≡ held_read xs (held_of l)
@@ -59,13 +52,7 @@ on_held_count (UnitStarted life software) h = refl
 on_held_count ManagerStarted h = refl
 on_held_count (PacketCame number packet) h = refl
 on_held_count (PacketSent whose packet) h = refl
-on_held_count (UnitCarried life reply before) h = refl
-on_held_count UnitKept h = refl
-on_held_count UnitDropped h = refl
-on_held_count (CommandDrawn lane) h = refl
-on_held_count (Reported report) h = refl
-on_held_count (Refused refusal) h = refl
-on_held_count NotEnabled h = refl
+on_held_count _ h = refl
 
 pub held_count : (xs : List Happening) (h : Held) → (held_read xs h).count ≡ next_after_all xs h.count
 held_count [] h = refl
@@ -73,7 +60,7 @@ held_count (x ∷ xs) h = held_count xs (on_held x h) ∙ ap (next_after_all xs)
 
 -- ---- a delivery is part of its event
 
-pub delivered_event : (o : Option Sent) (number : ℕ) (e : Ends) → (delivered_one o number e).ends.event ≡ e.event
+pub delivered_event : (o : Option Sent) (number : ℕ) (e : Ends) → (delivery_of o number e).ends.event ≡ e.event
 unfolding arrives
 delivered_event None number e = refl
 delivered_event (Some s) number e = at s.direction e.unit e.manager
@@ -113,7 +100,7 @@ FlowSoFar times left first now before text = (l : Link) → first.held ≡ held_
 pub flow_begins : (times : ℕ) (first : Seen) (before : List ℕ) → FlowSoFar times times first first before before
 flow_begins times first before = λ l same. record { happened = []; event = refl; held = same; next = refl; lines = sym (append-nil before); whole = refl }
 
-flow_next : (left number : ℕ) (n : Nodes) → oldest_fresh n ≡ Some number → flow (suc left) n ≡ goes_on (flow left) (delivered number n) n
+flow_next : (left number : ℕ) (n : Nodes) → oldest_fresh n ≡ Some number → flow (suc left) n ≡ goes_on (flow left) (delivery number n) n
 unfolding flow
 flow_next left number n found = ap (λ o. flow_from o (flow left) n) found
 
@@ -130,11 +117,11 @@ flow_zero n = refl
 found_there : (w : Seen) (l : Link) → w.held ≡ held_of l → held_fresh (is_some w.ends.unit) (is_some w.ends.manager) w.held ≡ oldest_fresh (nodes_of w l)
 found_there w l same = ap (held_fresh (is_some w.ends.unit) (is_some w.ends.manager)) same ∙ held_of-fresh (is_some w.ends.unit) (is_some w.ends.manager) l
 
-delivered_there : (number : ℕ) (w : Seen) (l : Link) → w.held ≡ held_of l → delivered_one (held_allowed number w.held) number w.ends ≡ delivered number (nodes_of w l)
-unfolding delivered
-delivered_there number w l same = ap (λ o. delivered_one o number w.ends) (ap (held_allowed number) same ∙ held_of-allowed number l)
+delivered_there : (number : ℕ) (w : Seen) (l : Link) → w.held ≡ held_of l → delivery_of (held_allowed number w.held) number w.ends ≡ delivery number (nodes_of w l)
+unfolding delivery
+delivered_there number w l same = ap (λ o. delivery_of o number w.ends) (ap (held_allowed number) same ∙ held_of-allowed number l)
 
-pub flow_goes_on : (times left number : ℕ) (first now after : Seen) (before text more : List ℕ) → FlowSoFar times (suc left) first now before text → Some number ≡ held_fresh (is_some now.ends.unit) (is_some now.ends.manager) now.held → shown after more ≡ followed (delivered_one (held_allowed number now.held) number now.ends) now text → FlowSoFar times left first after before more
+pub flow_goes_on : (times left number : ℕ) (first now after : Seen) (before text more : List ℕ) → FlowSoFar times (suc left) first now before text → Some number ≡ held_fresh (is_some now.ends.unit) (is_some now.ends.manager) now.held → shown after more ≡ followed (delivery_of (held_allowed number now.held) number now.ends) now text → FlowSoFar times left first after before more
 flow_goes_on times left number first now after before text more so_far found step = λ l same.
     goes l (so_far l same)
   where
@@ -142,7 +129,7 @@ flow_goes_on times left number first now after before text more so_far found ste
     goes l at =
         let link = link_read at.happened l in
         let n = nodes_of now link in
-        let s = delivered number n in
+        let s = delivery number n in
         let is_s = delivered_there number now link at.held in
         let step' = step ∙ ap (λ t. followed t now text) is_s in
         let ends' : after.ends ≡ s.ends = ap (λ (x : Shown). x.seen.ends) step' in
@@ -193,7 +180,7 @@ flow_ends times first now before text so_far l same =
     flow_over times 0 first now before text l same at (flow_zero (nodes_of now (link_read at.happened l)))
 
 -- a delivery over what is held is the delivery over the link
-pub delivered_on_link : (number : ℕ) (w new : Seen) (before after : List ℕ) → shown new after ≡ followed (delivered_one (held_allowed number w.held) number w.ends) w before → (l : Link) → w.held ≡ held_of l → shown new after ≡ followed (delivered number (nodes_of w l)) w before
+pub delivered_on_link : (number : ℕ) (w new : Seen) (before after : List ℕ) → shown new after ≡ followed (delivery_of (held_allowed number w.held) number w.ends) w before → (l : Link) → w.held ≡ held_of l → shown new after ≡ followed (delivery number (nodes_of w l)) w before
 delivered_on_link number w new before after step l same = step ∙ ap (λ s. followed s w before) (delivered_there number w l same)
 
 -- ---- a step counts its event
@@ -202,18 +189,18 @@ step_submits : (call : Manager → Submission) (o : Option Manager) (e : Ends) �
 step_submits call None e = refl
 step_submits call (Some m) e = by (call m).refusal (call m).outcome
   where
-    by : (r : Option Refusal) (o : Outcome) → (submitted_as r o e).ends.event ≡ e.event
+    by : (r : Option Refusal) (o : Outcome) → (submission_by r o e).ends.event ≡ e.event
     by None o = refl
     by (Some r) o = refl
 
 flow_event : (times : ℕ) (n : Nodes) → (flow times n).ends.event ≡ n.ends.event
-unfolding flow delivered
+unfolding flow delivery
 flow_event zero n = refl
 flow_event (suc times) n = from (oldest_fresh n) (flow_event times)
   where
     from : (o : Option ℕ) → ((m : Nodes) → (flow times m).ends.event ≡ m.ends.event) → (flow_from o (flow times) n).ends.event ≡ n.ends.event
     from None rest = refl
-    from (Some number) rest = rest (nodes_after_step (delivered number n) n) ∙ delivered_event (allowed number n.link) number n.ends
+    from (Some number) rest = rest (nodes_after_step (delivery number n) n) ∙ delivered_event (allowed number n.link) number n.ends
 
 noise_event : (d : Direction) (bytes : List ℕ) (e : Ends) → (noise d bytes e).ends.event ≡ e.event
 unfolding noise
@@ -233,11 +220,15 @@ noise_event d bytes e = at d
 
 second_event : (e : Ends) → (second e).ends.event ≡ e.event
 unfolding second
-second_event e = by e.manager
+second_event e = by_unit (manager_ticks e.manager e).ends.unit _ ∙ by_manager e.manager
   where
-    by : (o : Option Manager) → (manager_ticks o e).ends.event ≡ e.event
-    by None = refl
-    by (Some m) = refl
+    by_manager : (o : Option Manager) → (manager_ticks o e).ends.event ≡ e.event
+    by_manager None = refl
+    by_manager (Some m) = refl
+
+    by_unit : (o : Option Onu) (f : Ends) → (unit_ticks o f).ends.event ≡ f.event
+    by_unit None f = refl
+    by_unit (Some u) f = refl
 
 cut_unit_event : (o : Option Onu) (e : Ends) → (cut_unit o e).ends.event ≡ e.event
 cut_unit_event None e = refl
@@ -256,13 +247,15 @@ start_manager_event low high None e = refl
 start_manager_event low high (Some m) e = refl
 
 acted_event : (a : Action) (n : Nodes) → (acted a n).ends.event ≡ n.ends.event
-unfolding acted delivered
+unfolding acted delivery
 acted_event (Probe lane) n = step_submits _ n.ends.manager n.ends
 acted_event (Reset lane) n = step_submits _ n.ends.manager n.ends
 acted_event (Get lane entity mask) n = step_submits _ n.ends.manager n.ends
 acted_event (Create lane entity values) n = step_submits _ n.ends.manager n.ends
 acted_event (Set lane entity mask values) n = step_submits _ n.ends.manager n.ends
 acted_event (Delete lane entity) n = step_submits _ n.ends.manager n.ends
+acted_event Resync n = step_submits _ n.ends.manager n.ends
+acted_event Check n = step_submits _ n.ends.manager n.ends
 acted_event (Deliver number) n = delivered_event (allowed number n.link) number n.ends
 acted_event (Flow times) n = flow_event times n
 acted_event (NoiseUnit bytes) n = noise_event Down bytes n.ends
@@ -275,23 +268,23 @@ acted_event (StartOlt low high) n = start_manager_event low high n.ends.manager 
 
 pub step_event : (a : Action) (n : Nodes) → (step a n).nodes.ends.event ≡ n.ends.event + 1
 unfolding step
-step_event a n = acted_event a (counted n)
+step_event a n = acted_event a (next_event n)
 
 -- the world with one line more begun
 abbrev pub counted_there : Seen → Seen
 counted_there w = record w { ends = record w.ends { event = w.ends.event + 1 } }
 
 -- the world after a line, and the text with its lines
-pub acted_nodes : (a : Action) (n : Nodes) (w new : Seen) (before after : List ℕ) → w ≡ record { ends = (counted n).ends; held = held_of n.link } → shown new after ≡ followed (acted a (nodes_of w n.link)) w before → new ≡ seen_of (step a n).nodes
+pub acted_nodes : (a : Action) (n : Nodes) (w new : Seen) (before after : List ℕ) → w ≡ record { ends = (next_event n).ends; held = held_of n.link } → shown new after ≡ followed (acted a (nodes_of w n.link)) w before → new ≡ seen_of (step a n).nodes
 unfolding step
 acted_nodes a n w new before after same turned =
     let at = turned ∙ ap (λ (x : Seen). followed (acted a (nodes_of x n.link)) x before) same in
     ap (λ (x : Shown). x.seen) at
-    ∙ ap (λ h. record { ends = (acted a (counted n)).ends; held = h }) (sym (held_reads (acted a (counted n)).happenings n.link))
+    ∙ ap (λ h. record { ends = (acted a (next_event n)).ends; held = h }) (sym (held_reads (acted a (next_event n)).happenings n.link))
 
-pub acted_lines : (a : Action) (n : Nodes) (w new : Seen) (before after : List ℕ) → w ≡ record { ends = (counted n).ends; held = held_of n.link } → shown new after ≡ followed (acted a (nodes_of w n.link)) w before → after ≡ before ++ turn_text n (step a n)
+pub acted_lines : (a : Action) (n : Nodes) (w new : Seen) (before after : List ℕ) → w ≡ record { ends = (next_event n).ends; held = held_of n.link } → shown new after ≡ followed (acted a (nodes_of w n.link)) w before → after ≡ before ++ turn_text n (step a n)
 unfolding step held_of
 acted_lines a n w new before after same turned =
     let at = turned ∙ ap (λ (x : Seen). followed (acted a (nodes_of x n.link)) x before) same in
     ap (λ (x : Shown). x.text) at
-    ∙ ap (λ e. before ++ lines_text e (count n.link) (acted a (counted n)).happenings) (sym (acted_event a (counted n)))
+    ∙ ap (λ e. before ++ lines_text e (count n.link) (acted a (next_event n)).happenings) (sym (acted_event a (next_event n)))

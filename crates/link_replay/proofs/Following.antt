@@ -1,30 +1,24 @@
 -- What a step of the ends makes of the link and of a text, in the forms in which the code makes it.
-use Rattle.std.proofs.Common.{◌≡◌, ℕ, ◌+◌, Bool, true, false, List, [], ◌∷◌, ◌++◌, length, map, ◌≤◌, Option, Some, None, refl, sym, ◌∙◌, ap, subst, append_assoc, arith}
+use Rattle.std.proofs.Common.{◌≡◌, ℕ, ◌+◌, Bool, true, false, List, [], ◌∷◌, ◌++◌, length, map, Option, Some, None, refl, sym, ◌∙◌, ap, append_assoc, arith}
 use Rattle.std.specs.List.{flat_map}
-use Rattle.std.proofs.lemmas.List.{append-nil, length-append}
-use Rattle.std.proofs.lemmas.Grind.{flat_map-append}
-use Rattle.frame_spec.specs.Baseline.{frame_of, packet_frame}
-use Rattle.omci_types.specs.declared.Frame.{Frame}
+use Rattle.std.proofs.lemmas.List.{append-nil}
+use Rattle.frame_spec.specs.Baseline.{frame_of}
 use Rattle.omci_types.specs.declared.Priority.{Priority}
-use Rattle.omci_types.specs.declared.Priority.TheVariants.{Low, High}
-use Rattle.tci_spec.specs.Tci.{priority_of}
-use Rattle.lane_spec.specs.declared.LaneTick.{LaneTick}
-use Rattle.lane_spec.specs.declared.LaneTick.TheVariants.{Quiet, Repeat, GaveUp}
-use Rattle.lane_spec.specs.Lane.{Lane, Waiting, lane_tick, lane_reply, waiting_packets}
 use Rattle.link_spec.specs.declared.Direction.TheVariants.{Down}
 use Rattle.link_spec.specs.Held.{Held, held_sent}
 use Rattle.manager_spec.specs.declared.Report.{Report}
-use Rattle.omci_types.specs.declared.EntityId.{EntityId}
-use Rattle.message_spec.specs.declared.Request.{Request}
-use Rattle.lane_spec.specs.Command.{probe_command, ask}
 use Rattle.manager_spec.specs.declared.Refusal.{Refusal}
-use Rattle.manager_spec.specs.Manager.{Manager, Outcome, Submission, Sending, packets_of, occupied, submit_refusal, unless_refused, command_sent, after_probe, after_submit, after_packet, for_frame, take_if, lane_in, tick_lane, lane_ticked, after_tick}
+use Rattle.upload_spec.specs.Pieces.{Copy}
+use Rattle.manager_spec.specs.declared.Report.TheVariants as report
+use Rattle.manager_spec.specs.Manager.{Manager, Outcome, Sending, packets_of}
+use Rattle.manager_spec.specs.Submitting.{Submission}
+use Rattle.manager_spec.specs.Steps.{after_packet, after_tick}
 use Rattle.olt_manager.specs.State.{State, sound}
 use Rattle.world_spec.specs.declared.Effect.TheVariants as effect
-use Rattle.world_spec.specs.Happenings.{Happening, PacketSent, CommandDrawn, Reported, held_read}
-use Rattle.world_spec.specs.Ends.{Ends, Step, sends, if_drawn, goes_down, manager_did, submitted_as, submission, manager_got, manager_ticks, second}
+use Rattle.world_spec.specs.Happenings.{Happening, ReplyTaken, held_read}
+use Rattle.world_spec.specs.Ends.{Ends, sends, if_drawn, if_asked, goes_down, copy_told, reported, manager_did, submission_by, submission, manager_got, manager_ticks}
 use Rattle.world_spec.specs.Trace.{line_text, lines_text}
-use Rattle.link_replay.specs.Seen.{Seen, Shown, shown, followed, with_downs, downs_text, reports_text, down}
+use Rattle.link_replay.specs.Seen.{Seen, shown, followed, with_downs, downs_text, told_text, reports_text, down}
 
 -- a line alone
 pub one_line : (text line : List ℕ) → text ++ (line ++ []) ≡ text ++ line
@@ -36,16 +30,54 @@ two_lines text first second = ap (λ l. text ++ (first ++ l)) (append-nil second
 
 -- ---- reports
 
-reports_then : (event next : ℕ) (rs : List Report) (rest : List Happening) → lines_text event next (map Reported rs ++ rest) ≡ reports_text event rs ++ lines_text event next rest
-reports_then event next [] rest = refl
-reports_then event next (r ∷ rs) rest =
-    let line = line_text event (effect.Reported r) in
-    ap (λ t. line ++ t) (reports_then event next rs rest)
-    ∙ sym (append_assoc line (reports_text event rs) (lines_text event next rest))
+told_then : (event next : ℕ) (r : Report) (copy : Option Copy) (rest : List Happening)
+    → lines_text event next (copy_told r copy ++ rest)
+    ≡ told_text event r copy ++ lines_text event next rest
+told_then event next (report.Synced entities counter) (Some copy) rest = refl
+told_then event next (report.Synced entities counter) None rest = refl
+told_then event next _ copy rest = refl
 
-reports_held : (rs : List Report) (rest : List Happening) (h : Held) → held_read (map Reported rs ++ rest) h ≡ held_read rest h
-reports_held [] rest h = refl
-reports_held (r ∷ rs) rest h = reports_held rs rest h
+told_held : (r : Report) (copy : Option Copy) (rest : List Happening) (h : Held)
+    → held_read (copy_told r copy ++ rest) h ≡ held_read rest h
+told_held (report.Synced entities counter) (Some copy) rest h = refl
+told_held (report.Synced entities counter) None rest h = refl
+told_held _ copy rest h = refl
+
+reports_then : (event next : ℕ) (copy : Option Copy) (rs : List Report) (rest : List Happening)
+    → lines_text event next (flat_map (reported copy) rs ++ rest)
+    ≡ reports_text event copy rs ++ lines_text event next rest
+reports_then event next copy [] rest = refl
+reports_then event next copy (r ∷ rs) rest =
+    let line = line_text event (effect.Reported r) in
+    let later = flat_map (reported copy) rs ++ rest in
+    let told = told_text event r copy in
+    let end = lines_text event next rest in
+    ap (λ hs. line ++ lines_text event next hs)
+    (append_assoc (copy_told r copy) (flat_map (reported copy) rs) rest)
+    ∙ ap (λ t. line ++ t) (told_then event next r copy later)
+    ∙ ap (λ t. line ++ (told ++ t)) (reports_then event next copy rs rest)
+    ∙ ap (λ t. line ++ t) (sym (append_assoc told (reports_text event copy rs) end))
+    ∙ sym (append_assoc line (told ++ reports_text event copy rs) end)
+    ∙ ap (λ t. t ++ end) (sym (append_assoc line told (reports_text event copy rs)))
+
+reports_held : (copy : Option Copy) (rs : List Report) (rest : List Happening) (h : Held)
+    → held_read (flat_map (reported copy) rs ++ rest) h ≡ held_read rest h
+reports_held copy [] rest h = refl
+reports_held copy (r ∷ rs) rest h =
+    ap (λ hs. held_read hs h) (append_assoc (copy_told r copy) (flat_map (reported copy) rs) rest)
+    ∙ told_held r copy (flat_map (reported copy) rs ++ rest) h
+    ∙ reports_held copy rs rest h
+
+-- that replies were taken is neither a line nor a packet
+taken_then : (event next : ℕ) (lanes : List Priority) (rest : List Happening)
+    → lines_text event next (map ReplyTaken lanes ++ rest) ≡ lines_text event next rest
+taken_then event next [] rest = refl
+taken_then event next (l ∷ ls) rest = taken_then event next ls rest
+
+taken_held : (lanes : List Priority) (rest : List Happening) (h : Held)
+    → held_read (map ReplyTaken lanes ++ rest) h ≡ held_read rest h
+taken_held [] rest h = refl
+taken_held (l ∷ ls) rest h = taken_held ls rest h
 
 -- ---- packets that go down
 
@@ -86,11 +118,32 @@ drawn_held : (b : Bool) (lane : Priority) (rest : List Happening) (h : Held) →
 drawn_held true lane rest h = refl
 drawn_held false lane rest h = refl
 
+asked_then : (event next : ℕ) (b : Bool) (lane : Priority) (rest : List Happening)
+    → lines_text event next (if_asked b lane ++ rest) ≡ lines_text event next rest
+asked_then event next true lane rest = refl
+asked_then event next false lane rest = refl
+
+asked_held : (b : Bool) (lane : Priority) (rest : List Happening) (h : Held)
+    → held_read (if_asked b lane ++ rest) h ≡ held_read rest h
+asked_held true lane rest h = refl
+asked_held false lane rest h = refl
+
+-- what a sending makes happen, and then the rest
+sends_then : (s : Sending) (rest : List Happening) → sends s ++ rest
+    ≡ if_drawn s.drawn s.lane ++ (if_asked s.asks s.lane ++ (map (goes_down s.lane) s.packets ++ rest))
+sends_then s rest =
+    append_assoc (if_drawn s.drawn s.lane ++ if_asked s.asks s.lane)
+    (map (goes_down s.lane) s.packets) rest
+    ∙ append_assoc (if_drawn s.drawn s.lane) (if_asked s.asks s.lane)
+    (map (goes_down s.lane) s.packets ++ rest)
+
 sendings_text : (event next : ℕ) (ss : List Sending) → lines_text event next (flat_map sends ss) ≡ downs_text event next (packets_of ss)
 sendings_text event next [] = refl
 sendings_text event next (s ∷ ss) =
-    ap (lines_text event next) (append_assoc (if_drawn s.drawn s.lane) (map (goes_down s.lane) s.packets) (flat_map sends ss))
-    ∙ drawn_then event next s.drawn s.lane (map (goes_down s.lane) s.packets ++ flat_map sends ss)
+    let downs = map (goes_down s.lane) s.packets ++ flat_map sends ss in
+    ap (lines_text event next) (sends_then s (flat_map sends ss))
+    ∙ drawn_then event next s.drawn s.lane (if_asked s.asks s.lane ++ downs)
+    ∙ asked_then event next s.asks s.lane downs
     ∙ packets_then event next s.lane s.packets (flat_map sends ss)
     ∙ ap (λ t. downs_text event next s.packets ++ t) (sendings_text event (next + length s.packets) ss)
     ∙ sym (downs_both event next s.packets (packets_of ss))
@@ -98,8 +151,10 @@ sendings_text event next (s ∷ ss) =
 sendings_held : (ss : List Sending) (h : Held) → held_read (flat_map sends ss) h ≡ with_downs (packets_of ss) h
 sendings_held [] h = refl
 sendings_held (s ∷ ss) h =
-    ap (λ hs. held_read hs h) (append_assoc (if_drawn s.drawn s.lane) (map (goes_down s.lane) s.packets) (flat_map sends ss))
-    ∙ drawn_held s.drawn s.lane (map (goes_down s.lane) s.packets ++ flat_map sends ss) h
+    let downs = map (goes_down s.lane) s.packets ++ flat_map sends ss in
+    ap (λ hs. held_read hs h) (sends_then s (flat_map sends ss))
+    ∙ drawn_held s.drawn s.lane (if_asked s.asks s.lane ++ downs) h
+    ∙ asked_held s.asks s.lane downs h
     ∙ packets_held s.lane s.packets (flat_map sends ss) h
     ∙ sendings_held ss (with_downs s.packets h)
     ∙ sym (with_downs_both s.packets (packets_of ss) h)
@@ -111,37 +166,46 @@ abbrev pub manager_ends : Outcome → Ends → Ends
 manager_ends o e = record e { manager = Some (record o.manager { reports = [] }) }
 
 -- reports are lines, and then packets go down
-pub manager_followed : (o : Outcome) (w : Seen) (text : List ℕ) → shown (record { ends = manager_ends o w.ends; held = with_downs (packets_of o.sendings) w.held }) (text ++ (reports_text w.ends.event o.manager.reports ++ downs_text w.ends.event w.held.count (packets_of o.sendings))) ≡ followed (manager_did o w.ends) w text
+pub manager_followed : (o : Outcome) (w : Seen) (text : List ℕ) → shown (record { ends = manager_ends o w.ends; held = with_downs (packets_of o.sendings) w.held }) (text ++ (reports_text w.ends.event o.manager.copy o.manager.reports ++ downs_text w.ends.event w.held.count (packets_of o.sendings))) ≡ followed (manager_did o w.ends) w text
 manager_followed o w text =
     let event = w.ends.event in
     let next = w.held.count in
-    let lines = reports_then event next o.manager.reports (flat_map sends o.sendings)
-    ∙ ap (λ t. reports_text event o.manager.reports ++ t) (sendings_text event next o.sendings) in
-    let held = reports_held o.manager.reports (flat_map sends o.sendings) w.held ∙ sendings_held o.sendings w.held in
-    ap (λ h. shown (record { ends = manager_ends o w.ends; held = h }) (text ++ (reports_text event o.manager.reports ++ downs_text event next (packets_of o.sendings)))) (sym held)
+    let copy = o.manager.copy in
+    let after = flat_map (reported copy) o.manager.reports ++ flat_map sends o.sendings in
+    let parts = append_assoc (map ReplyTaken o.taken) (flat_map (reported copy) o.manager.reports)
+    (flat_map sends o.sendings) in
+    let lines = ap (lines_text event next) parts
+    ∙ taken_then event next o.taken after
+    ∙ reports_then event next copy o.manager.reports (flat_map sends o.sendings)
+    ∙ ap (λ t. reports_text event o.manager.copy o.manager.reports ++ t) (sendings_text event next o.sendings) in
+    let held = ap (λ hs. held_read hs w.held) parts
+    ∙ taken_held o.taken after w.held
+    ∙ reports_held copy o.manager.reports (flat_map sends o.sendings) w.held
+    ∙ sendings_held o.sendings w.held in
+    ap (λ h. shown (record { ends = manager_ends o w.ends; held = h }) (text ++ (reports_text event o.manager.copy o.manager.reports ++ downs_text event next (packets_of o.sendings)))) (sym held)
     ∙ ap (λ t. shown (record { ends = manager_ends o w.ends; held = held_read (manager_did o w.ends).happenings w.held }) (text ++ t)) (sym lines)
 
 -- what the manager did, seen after its reports were taken out and its packets sent
-pub manager_shown : (o : Outcome) (w new : Seen) (m : State) (ps : List (List ℕ)) (before after : List ℕ) → m ≡ sound o.manager → ps ≡ packets_of o.sendings → new ≡ record { ends = record w.ends { manager = Some (record m.manager { reports = [] }) }; held = with_downs ps w.held } → after ≡ before ++ (reports_text w.ends.event m.manager.reports ++ downs_text w.ends.event w.held.count ps) → shown new after ≡ followed (manager_did o w.ends) w before
+pub manager_shown : (o : Outcome) (w new : Seen) (m : State) (ps : List (List ℕ)) (before after : List ℕ) → m ≡ sound o.manager → ps ≡ packets_of o.sendings → new ≡ record { ends = record w.ends { manager = Some (record m.manager { reports = [] }) }; held = with_downs ps w.held } → after ≡ before ++ (reports_text w.ends.event m.manager.copy m.manager.reports ++ downs_text w.ends.event w.held.count ps) → shown new after ≡ followed (manager_did o w.ends) w before
 manager_shown o w new m ps before after m_is ps_is new_is after_is =
     let new' = new_is
     ∙ ap (λ (x : State). record { ends = record w.ends { manager = Some (record x.manager { reports = [] }) }; held = with_downs ps w.held }) m_is
     ∙ ap (λ qs. record { ends = manager_ends o w.ends; held = with_downs qs w.held }) ps_is in
     let after' = after_is
-    ∙ ap (λ (x : State). before ++ (reports_text w.ends.event x.manager.reports ++ downs_text w.ends.event w.held.count ps)) m_is
-    ∙ ap (λ qs. before ++ (reports_text w.ends.event o.manager.reports ++ downs_text w.ends.event w.held.count qs)) ps_is in
+    ∙ ap (λ (x : State). before ++ (reports_text w.ends.event x.manager.copy x.manager.reports ++ downs_text w.ends.event w.held.count ps)) m_is
+    ∙ ap (λ qs. before ++ (reports_text w.ends.event o.manager.copy o.manager.reports ++ downs_text w.ends.event w.held.count qs)) ps_is in
     ap (λ x. shown x after) new'
     ∙ ap (λ t. shown (record { ends = manager_ends o w.ends; held = with_downs (packets_of o.sendings) w.held }) t) after'
     ∙ manager_followed o w before
 
 -- a submission that is accepted
-pub accepted_shown : (call : Manager → Submission) (m m' : State) (w new : Seen) (ps : List (List ℕ)) (before after : List ℕ) → w.ends.manager ≡ Some m.manager → (call m.manager).refusal ≡ None → m' ≡ sound (call m.manager).outcome.manager → ps ≡ packets_of (call m.manager).outcome.sendings → new ≡ record { ends = record w.ends { manager = Some (record m'.manager { reports = [] }) }; held = with_downs ps w.held } → after ≡ before ++ (reports_text w.ends.event m'.manager.reports ++ downs_text w.ends.event w.held.count ps) → shown new after ≡ followed (submission call w.ends.manager w.ends) w before
+pub accepted_shown : (call : Manager → Submission) (m m' : State) (w new : Seen) (ps : List (List ℕ)) (before after : List ℕ) → w.ends.manager ≡ Some m.manager → (call m.manager).refusal ≡ None → m' ≡ sound (call m.manager).outcome.manager → ps ≡ packets_of (call m.manager).outcome.sendings → new ≡ record { ends = record w.ends { manager = Some (record m'.manager { reports = [] }) }; held = with_downs ps w.held } → after ≡ before ++ (reports_text w.ends.event m'.manager.copy m'.manager.reports ++ downs_text w.ends.event w.held.count ps) → shown new after ≡ followed (submission call w.ends.manager w.ends) w before
 accepted_shown call m m' w new ps before after on accepted m_is ps_is new_is after_is =
     manager_shown (call m.manager).outcome w new m' ps before after m_is ps_is new_is after_is
-    ∙ ap (λ r. followed (submitted_as r (call m.manager).outcome w.ends) w before) (sym accepted)
+    ∙ ap (λ r. followed (submission_by r (call m.manager).outcome w.ends) w before) (sym accepted)
     ∙ ap (λ o. followed (submission call o w.ends) w before) (sym on)
 
-refusal_followed : (r : Refusal) (o : Outcome) (w : Seen) (before : List ℕ) → shown w (before ++ (line_text w.ends.event (effect.Refused r) ++ [])) ≡ followed (submitted_as (Some r) o w.ends) w before
+refusal_followed : (r : Refusal) (o : Outcome) (w : Seen) (before : List ℕ) → shown w (before ++ (line_text w.ends.event (effect.Refused r) ++ [])) ≡ followed (submission_by (Some r) o w.ends) w before
 refusal_followed r o w before = refl
 
 -- the world whose manager is this one
@@ -155,12 +219,12 @@ refused_shown call m m' r w before after on refused same after_is =
     ∙ ap (λ o. shown (with_manager o w) after) (sym on)
     ∙ ap (λ t. shown w t) (after_is ∙ sym (one_line before (line_text w.ends.event (effect.Refused r))))
     ∙ refusal_followed r (call m.manager).outcome w before
-    ∙ ap (λ o. followed (submitted_as o (call m.manager).outcome w.ends) w before) (sym refused)
+    ∙ ap (λ o. followed (submission_by o (call m.manager).outcome w.ends) w before) (sym refused)
     ∙ ap (λ o. followed (submission call o w.ends) w before) (sym on)
 
 -- ---- the same, where the world is seen through its fields
 
-pub accepted_there : (call : Manager → Submission) (m m' : State) (v w new : Seen) (ps : List (List ℕ)) (before after : List ℕ) → v ≡ w → v.ends.manager ≡ Some m.manager → (call m.manager).refusal ≡ None → m' ≡ sound (call m.manager).outcome.manager → ps ≡ packets_of (call m.manager).outcome.sendings → new ≡ record { ends = record v.ends { manager = Some (record m'.manager { reports = [] }) }; held = with_downs ps v.held } → after ≡ before ++ (reports_text v.ends.event m'.manager.reports ++ downs_text v.ends.event v.held.count ps) → shown new after ≡ followed (submission call w.ends.manager w.ends) w before
+pub accepted_there : (call : Manager → Submission) (m m' : State) (v w new : Seen) (ps : List (List ℕ)) (before after : List ℕ) → v ≡ w → v.ends.manager ≡ Some m.manager → (call m.manager).refusal ≡ None → m' ≡ sound (call m.manager).outcome.manager → ps ≡ packets_of (call m.manager).outcome.sendings → new ≡ record { ends = record v.ends { manager = Some (record m'.manager { reports = [] }) }; held = with_downs ps v.held } → after ≡ before ++ (reports_text v.ends.event m'.manager.copy m'.manager.reports ++ downs_text v.ends.event v.held.count ps) → shown new after ≡ followed (submission call w.ends.manager w.ends) w before
 accepted_there call m m' v w new ps before after same on accepted m_is ps_is new_is after_is =
     accepted_shown call m m' v new ps before after on accepted m_is ps_is new_is after_is
     ∙ ap (λ u. followed (submission call u.ends.manager u.ends) u before) same
@@ -171,14 +235,13 @@ refused_there call m m' r v w before after same on refused m_is after_is =
     ∙ ap (λ u. followed (submission call u.ends.manager u.ends) u before) same
 
 -- a packet that comes to the manager, and a second
-pub received_there : (bytes : List ℕ) (m m' : State) (v w new : Seen) (ps : List (List ℕ)) (before after : List ℕ) → v ≡ w → v.ends.manager ≡ Some m.manager → m' ≡ sound (after_packet bytes m.manager).manager → ps ≡ packets_of (after_packet bytes m.manager).sendings → new ≡ record { ends = record v.ends { manager = Some (record m'.manager { reports = [] }) }; held = with_downs ps v.held } → after ≡ before ++ (reports_text v.ends.event m'.manager.reports ++ downs_text v.ends.event v.held.count ps) → shown new after ≡ followed (manager_got [] bytes w.ends.manager w.ends) w before
+pub received_there : (bytes : List ℕ) (m m' : State) (v w new : Seen) (ps : List (List ℕ)) (before after : List ℕ) → v ≡ w → v.ends.manager ≡ Some m.manager → m' ≡ sound (after_packet bytes m.manager).manager → ps ≡ packets_of (after_packet bytes m.manager).sendings → new ≡ record { ends = record v.ends { manager = Some (record m'.manager { reports = [] }) }; held = with_downs ps v.held } → after ≡ before ++ (reports_text v.ends.event m'.manager.copy m'.manager.reports ++ downs_text v.ends.event v.held.count ps) → shown new after ≡ followed (manager_got [] bytes w.ends.manager w.ends) w before
 received_there bytes m m' v w new ps before after same on m_is ps_is new_is after_is =
     manager_shown (after_packet bytes m.manager) v new m' ps before after m_is ps_is new_is after_is
     ∙ ap (λ o. followed (manager_got [] bytes o v.ends) v before) (sym on)
     ∙ ap (λ u. followed (manager_got [] bytes u.ends.manager u.ends) u before) same
 
-pub ticked_there : (m m' : State) (v w new : Seen) (ps : List (List ℕ)) (before after : List ℕ) → v ≡ w → v.ends.manager ≡ Some m.manager → m' ≡ sound (after_tick m.manager).manager → ps ≡ packets_of (after_tick m.manager).sendings → new ≡ record { ends = record v.ends { manager = Some (record m'.manager { reports = [] }) }; held = with_downs ps v.held } → after ≡ before ++ (reports_text v.ends.event m'.manager.reports ++ downs_text v.ends.event v.held.count ps) → shown new after ≡ followed (second w.ends) w before
-unfolding second
+pub ticked_there : (m m' : State) (v w new : Seen) (ps : List (List ℕ)) (before after : List ℕ) → v ≡ w → v.ends.manager ≡ Some m.manager → m' ≡ sound (after_tick m.manager).manager → ps ≡ packets_of (after_tick m.manager).sendings → new ≡ record { ends = record v.ends { manager = Some (record m'.manager { reports = [] }) }; held = with_downs ps v.held } → after ≡ before ++ (reports_text v.ends.event m'.manager.copy m'.manager.reports ++ downs_text v.ends.event v.held.count ps) → shown new after ≡ followed (manager_ticks w.ends.manager w.ends) w before
 ticked_there m m' v w new ps before after same on m_is ps_is new_is after_is =
     manager_shown (after_tick m.manager) v new m' ps before after m_is ps_is new_is after_is
     ∙ ap (λ o. followed (manager_ticks o v.ends) v before) (sym on)

@@ -1,15 +1,14 @@
 -- What a run has written after some of its events.
-use Rattle.std.proofs.Common.{◌≡◌, false, ℕ, zero, suc, ◌+◌, List, [], ◌∷◌, ◌++◌, length, drop, Option, Some, None, slice_get, refl, sym, ◌∙◌, ap, subst, append_assoc, arith}
+use Rattle.std.proofs.Common.{◌≡◌, false, ℕ, zero, suc, ◌+◌, List, [], ◌∷◌, ◌++◌, length, drop, Option, Some, slice_get, refl, sym, ◌∙◌, ap, subst, append_assoc, arith}
 use Rattle.std.proofs.lemmas.List.{append-nil}
 use Rattle.std.specs.Io.KnownBytes.{Appends}
 use Rattle.omci_core.proofs.Streams.{Appends-none, Appends-then}
 use Rattle.script_spec.specs.Script.{Script, Action}
-use Rattle.script_spec.specs.Script as script
 use Rattle.world_spec.specs.declared.Effect.TheVariants as effect
-use Rattle.world_spec.specs.Ends.{Ends, factory_software}
+use Rattle.world_spec.specs.Ends.{factory_software}
 use Rattle.world_spec.specs.Nodes.{Nodes, step, first_nodes, nodes_after}
 use Rattle.world_spec.specs.Trace.{line_text, turn_text, trace_from, trace}
-use Rattle.link_replay.specs.Seen.{Seen, State, seen_of, sound}
+use Rattle.link_replay.specs.Seen.{State, seen_of, sound}
 use Rattle.link_replay.proofs.Flows.{step_event}
 use Rattle.link_replay.specs.Writing.{WritesSome, WritesFront}
 

@@ -4,15 +4,17 @@ use Rattle.std.specs.Prelude.{ℕ, ◌+◌, Bool, false, List, [], ◌∷◌, �
 use Rattle.std.specs.List.{flat_map}
 use Rattle.frame_spec.specs.Baseline.{frame_of}
 use Rattle.link_spec.specs.declared.Direction.TheVariants.{Down}
-use Rattle.link_spec.specs.Link.{Sent, Link}
+use Rattle.link_spec.specs.Link.{Sent}
 use Rattle.link_spec.specs.Held.{Held, held_of, held_sent}
+use Rattle.upload_spec.specs.Pieces.{Copy}
 use Rattle.manager_spec.specs.declared.Report.{Report}
+use Rattle.manager_spec.specs.declared.Report.TheVariants as report
 use Rattle.manager_spec.specs.Manager.{Manager}
 use Rattle.world_spec.specs.declared.Effect.TheVariants as effect
 use Rattle.world_spec.specs.Happenings.{held_read}
 use Rattle.world_spec.specs.Ends.{Ends, Step}
 use Rattle.world_spec.specs.Nodes.{Nodes}
-use Rattle.world_spec.specs.Trace.{line_text, lines_text}
+use Rattle.world_spec.specs.Trace.{line_text, lines_text, copy_line}
 
 pub record Seen : Type 0 where
   pub ends : Ends
@@ -51,14 +53,27 @@ abbrev pub reports_in : Option Manager → List Report
 reports_in None = []
 reports_in (Some m) = m.reports
 
+abbrev pub copy_in : Option Manager → Option Copy
+copy_in None = None
+copy_in (Some m) = m.copy
+
 -- a manager whose reports were taken out
 abbrev pub without_reports : Option Manager → Option Manager
 without_reports None = None
 without_reports (Some m) = Some (record m { reports = [] })
 
--- a line for each report
-abbrev pub reports_text : ℕ → List Report → List ℕ
-reports_text event reports = flat_map (λ r. line_text event (effect.Reported r)) reports
+-- the lines of the copy, after the report of a resynchronisation
+abbrev pub told_text : ℕ → Report → Option Copy → List ℕ
+told_text event (report.Synced entities counter) (Some copy) = flat_map (copy_line event) copy
+told_text event _ copy = []
+
+-- the lines of a report
+abbrev pub report_lines : ℕ → Option Copy → Report → List ℕ
+report_lines event copy r = line_text event (effect.Reported r) ++ told_text event r copy
+
+-- the lines of each report
+abbrev pub reports_text : ℕ → Option Copy → List Report → List ℕ
+reports_text event copy reports = flat_map (report_lines event copy) reports
 
 abbrev pub down : List ℕ → Sent
 down bytes = record { direction = Down; bytes = bytes }

@@ -8,15 +8,15 @@ ghost use Rattle.tci_spec.specs.Tci.{IsNumber};
 ghost use Rattle.link_spec.specs.Link.{Link, fresh};
 ghost use Rattle.link_spec.specs.Held.{held_of, held_sent, held_allowed, held_delivered, held_fresh};
 ghost use Rattle.manager_spec.specs.declared.Refusal.TheVariants as why;
-ghost use Rattle.manager_spec.specs.Manager.{after_probe, after_submit};
+ghost use Rattle.manager_spec.specs.Submitting.{after_probe, after_submit, after_check, after_resync};
 ghost use Rattle.world_spec.specs.declared.Effect.{Effect};
 ghost use Rattle.world_spec.specs.declared.Effect.TheVariants as effect;
-ghost use Rattle.world_spec.specs.Ends.{Ends, first_ends, factory_software, view_of, not_enabled, submission, submitted_as, unit_got, manager_got, arrives, arrives_at, noise, second, cut_unit, cut_manager, start_unit, start_manager};
-ghost use Rattle.world_spec.specs.Nodes.{first_nodes, delivered_one, flow};
+ghost use Rattle.world_spec.specs.Ends.{Ends, first_ends, factory_software, view_of, not_enabled, submission, submission_by, unit_got, manager_got, arrives, arrives_at, noise, second, manager_ticks, unit_ticks, cut_unit, cut_manager, start_unit, start_manager};
+ghost use Rattle.world_spec.specs.Nodes.{first_nodes, delivery_of, flow};
 ghost use Rattle.world_spec.specs.Trace.{line_text};
 ghost use Rattle.replay_script.specs.Events.{header_of};
 ghost use Rattle.olt_manager.specs.State.{AreFrames};
-ghost use Rattle.link_replay.specs.Seen.{shown, followed, seen_of, reports_in, without_reports, reports_text, with_downs, downs_text};
+ghost use Rattle.link_replay.specs.Seen.{shown, followed, seen_of, copy_in, reports_in, without_reports, reports_text, with_downs, downs_text};
 
 use crate::reports::push_reports;
 use crate::texts::push_line;
@@ -188,7 +188,7 @@ impl Machine {
           held = with_downs packets.now self.old.held;
         }) }
         ensures lines { OnOk result (out.new.items ≡ out.old.items
-            ++ (reports_text self.old.ends.event (reports_in self.old.ends.manager)
+            ++ (reports_text self.old.ends.event (copy_in self.old.ends.manager) (reports_in self.old.ends.manager)
             ++ downs_text self.old.ends.event self.old.held.count packets.now)) }
     {
         if let Some(manager) = &mut self.manager {
@@ -254,6 +254,38 @@ impl Machine {
         Ok(())
     }
 
+    /// The manager compares the unit's counter with its copy's.
+    pub fn check(&mut self, outbox: &mut Outbox, out: &mut Vec<u8>) -> Result<(), NoMemory>
+        ensures follows { OnOk result (shown self.new out.new.items
+            ≡ followed (submission after_check self.old.ends.manager self.old.ends) self.old out.old.items) }
+    {
+        let Some(manager) = &mut self.manager else {
+            return self.show(&Effect::NotEnabled, out);
+        };
+        outbox.packets.clear();
+        match manager.check(&mut outbox.packets) {
+            Ok(()) => self.after_manager(&outbox.packets, out)?,
+            Err(refusal) => self.refuse(refusal, out)?,
+        }
+        Ok(())
+    }
+
+    /// The manager begins a resynchronisation.
+    pub fn resync(&mut self, outbox: &mut Outbox, out: &mut Vec<u8>) -> Result<(), NoMemory>
+        ensures follows { OnOk result (shown self.new out.new.items
+            ≡ followed (submission after_resync self.old.ends.manager self.old.ends) self.old out.old.items) }
+    {
+        let Some(manager) = &mut self.manager else {
+            return self.show(&Effect::NotEnabled, out);
+        };
+        outbox.packets.clear();
+        match manager.resync(&mut outbox.packets) {
+            Ok(()) => self.after_manager(&outbox.packets, out)?,
+            Err(refusal) => self.refuse(refusal, out)?,
+        }
+        Ok(())
+    }
+
     /// Bytes come to the manager.
     fn to_manager(
         &mut self,
@@ -273,9 +305,10 @@ impl Machine {
         Ok(())
     }
 
-    /// A second passes.
-    pub fn second(&mut self, outbox: &mut Outbox, out: &mut Vec<u8>) -> Result<(), NoMemory>
-        ensures follows { OnOk result (shown self.new out.new.items ≡ followed (second self.old.ends) self.old out.old.items) }
+    /// A second passes for the manager.
+    fn tick_manager(&mut self, outbox: &mut Outbox, out: &mut Vec<u8>) -> Result<(), NoMemory>
+        ensures follows { OnOk result (shown self.new out.new.items
+            ≡ followed (manager_ticks self.old.ends.manager self.old.ends) self.old out.old.items) }
     {
         let Some(manager) = &mut self.manager else {
             return Ok(());
@@ -283,6 +316,25 @@ impl Machine {
         outbox.packets.clear();
         manager.tick(&mut outbox.packets)?;
         self.after_manager(&outbox.packets, out)?;
+        Ok(())
+    }
+
+    /// A second passes for the unit.
+    fn tick_unit(&mut self)
+        ensures ends { self.new ≡ record self.old { ends = (unit_ticks self.old.ends.unit self.old.ends).ends } }
+    {
+        if let Some(agent) = &mut self.agent {
+            agent.tick();
+        }
+    }
+
+    /// A second passes.
+    #[tactic(auto, unfolding(world_spec::specs::Ends::second))]
+    pub fn second(&mut self, outbox: &mut Outbox, out: &mut Vec<u8>) -> Result<(), NoMemory>
+        ensures follows { OnOk result (shown self.new out.new.items ≡ followed (second self.old.ends) self.old out.old.items) }
+    {
+        self.tick_manager(outbox, out)?;
+        self.tick_unit();
         Ok(())
     }
 
@@ -307,8 +359,11 @@ impl Machine {
                 self.show(&Effect::Kept, out)?;
                 self.send(Direction::Up, reply, out)
             }
-            Did::Carried => {
+            Did::Carried { note } => {
                 self.show(&Effect::Carried { life: self.lives }, out)?;
+                if let Some(note) = note {
+                    self.show(&Effect::Noted(note), out)?;
+                }
                 self.send(Direction::Up, reply, out)
             }
         }
@@ -325,7 +380,7 @@ impl Machine {
         out: &mut Vec<u8>,
     ) -> Result<(), NoMemory>
         ensures follows { OnOk result (shown self.new out.new.items
-            ≡ followed (delivered_one (held_allowed number self.old.held) number self.old.ends) self.old out.old.items) }
+            ≡ followed (delivery_of (held_allowed number self.old.held) number self.old.ends) self.old out.old.items) }
     {
         if !self.link.allowed(number) {
             return self.show(&Effect::NotEnabled, out);

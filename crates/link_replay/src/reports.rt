@@ -1,20 +1,54 @@
-//! The reports of the manager, each a line of the trace.
+//! The reports of the manager, each with its lines in the trace.
 
-ghost use Rattle.std.specs.Prelude.{◌≡◌, ◌++◌, [], OnOk};
-ghost use Rattle.link_replay.specs.Seen.{reports_text};
+ghost use Rattle.std.specs.Prelude.{◌≡◌, ◌++◌, [], OnOk, IfSome, is_some};
+ghost use Rattle.std.specs.List.{flat_map};
+ghost use Rattle.world_spec.specs.declared.Effect.TheVariants as effect;
+ghost use Rattle.world_spec.specs.Trace.{copy_line, line_text};
+ghost use Rattle.link_replay.specs.Seen.{report_lines, reports_text, told_text};
 
-use crate::texts::push_line;
+use crate::texts::{push_entry, push_line};
+use manager_spec::Report;
+use mib_upload::MibCopy;
 use olt_manager::Manager;
 use omci_core::NoMemory;
 use world_spec::Effect;
 
-/// Takes the manager's reports out, and appends a line for each.
+/// Appends a line for each entity of a copy.
+fn push_copy(out: &mut Vec<u8>, event: u64, copy: &MibCopy) -> Result<(), NoMemory>
+    ensures lines { OnOk result (out.new.items ≡ out.old.items ++ flat_map (copy_line event) copy.now) }
+{
+    for place in 0..copy.len() {
+        let entry = copy.entry(place);
+        push_entry(out, event, entry.entity, entry.mask.0, entry.values)?;
+    }
+    Ok(())
+}
+
+/// Appends the lines of a report: the copy's after that of a resynchronisation.
+fn push_report(
+    manager: &Manager,
+    report: Report,
+    event: u64,
+    out: &mut Vec<u8>,
+) -> Result<(), NoMemory>
+    ensures lines { OnOk result (out.new.items ≡ out.old.items ++ report_lines event manager.now.manager.copy report) }
+{
+    push_line(out, event, &Effect::Reported(report))?;
+    if let Report::Synced { .. } = report {
+        if let Some(copy) = manager.copy() {
+            push_copy(out, event, copy)?;
+        }
+    }
+    Ok(())
+}
+
+/// Takes the manager's reports out, and appends the lines of each.
 pub fn push_reports(manager: &mut Manager, event: u64, out: &mut Vec<u8>) -> Result<(), NoMemory>
     ensures manager { OnOk result (manager.new ≡ record manager.old { manager = record manager.old.manager { reports = [] } }) }
-    ensures lines { OnOk result (out.new.items ≡ out.old.items ++ reports_text event manager.old.manager.reports) }
+    ensures lines { OnOk result (out.new.items ≡ out.old.items ++ reports_text event manager.old.manager.copy manager.old.manager.reports) }
 {
     while let Some(report) = manager.report() {
-        push_line(out, event, &Effect::Reported(report))?;
+        push_report(manager, report, event, out)?;
     }
     Ok(())
 }

@@ -2,13 +2,14 @@
 
 ghost use Rattle.std.specs.Prelude.{◌≡◌, ◌++◌, ◌≤◌, List, length, OnOk, codes, decimal, Option};
 ghost use Rattle.world_spec.specs.declared.Effect.TheVariants as effect;
-ghost use Rattle.world_spec.specs.Trace.{line_text, effect_text, slot_text, refusal_text, report_text, direction_text, lane_text};
+ghost use Rattle.world_spec.specs.Trace.{line_text, effect_text, slot_text, refusal_text, report_text, note_text, phase_text, job_text, reason_text, entity_text, hex_text, entry_text, entry_line, direction_text, lane_text};
 
 use link_spec::Direction;
-use manager_spec::{Refusal, Report};
+use manager_spec::{Job, Phase, Refusal, Report, ResyncReason};
 use omci_contents::{push_bytes, push_hex, push_number, push_tci, push_text};
-use omci_core::{NoMemory, Priority, SlotView, Software};
+use omci_core::{EntityId, NoMemory, Priority, SlotView, Software};
 use omci_frames::Frame;
+use unit_spec::Note;
 use world_spec::Effect;
 
 /// Appends what is known of a slot: `LENGTH:CRC`, or `-` where it isn't valid.
@@ -86,6 +87,59 @@ fn push_sent(
     push_text(out, frame)
 }
 
+/// Appends an entity: its class and its instance.
+fn push_entity(out: &mut Vec<u8>, entity: EntityId) -> Result<(), NoMemory>
+    ensures text { OnOk result (out.new.items ≡ out.old.items ++ entity_text entity) }
+{
+    push_number(out, entity.class as u64)?;
+    push_bytes(out, b" ")?;
+    push_number(out, entity.instance as u64)
+}
+
+/// Appends the name of a phase.
+fn push_phase(out: &mut Vec<u8>, phase: Phase) -> Result<(), NoMemory>
+    ensures text { OnOk result (out.new.items ≡ out.old.items ++ phase_text phase) }
+{
+    match phase {
+        Phase::New => push_bytes(out, b"new"),
+        Phase::InStep => push_bytes(out, b"in"),
+        Phase::Out => push_bytes(out, b"out"),
+    }
+}
+
+/// Appends the name of a job.
+fn push_job(out: &mut Vec<u8>, job: Job) -> Result<(), NoMemory>
+    ensures text { OnOk result (out.new.items ≡ out.old.items ++ job_text job) }
+{
+    match job {
+        Job::Resync => push_bytes(out, b"resync"),
+    }
+}
+
+/// Appends why a resynchronisation failed.
+fn push_reason(out: &mut Vec<u8>, reason: ResyncReason) -> Result<(), NoMemory>
+    ensures text { OnOk result (out.new.items ≡ out.old.items ++ reason_text reason) }
+{
+    match reason {
+        ResyncReason::GaveUp { tci } => {
+            push_bytes(out, b"gave-up ")?;
+            push_tci(out, tci)
+        }
+        ResyncReason::Empty => push_bytes(out, b"empty"),
+        ResyncReason::Truncated { entity } => {
+            push_bytes(out, b"truncated ")?;
+            push_entity(out, entity)
+        }
+        ResyncReason::Repeated { entity, attribute } => {
+            push_bytes(out, b"repeated ")?;
+            push_entity(out, entity)?;
+            push_bytes(out, b" ")?;
+            push_number(out, attribute as u64)
+        }
+        ResyncReason::Missing => push_bytes(out, b"missing"),
+    }
+}
+
 /// Appends why a command was not submitted.
 fn push_refusal(out: &mut Vec<u8>, refusal: Refusal) -> Result<(), NoMemory>
     ensures text { OnOk result (out.new.items ≡ out.old.items ++ refusal_text refusal) }
@@ -99,12 +153,31 @@ fn push_refusal(out: &mut Vec<u8>, refusal: Refusal) -> Result<(), NoMemory>
             push_bytes(out, b"occupied ")?;
             push_tci(out, tci)
         }
+        Refusal::OutOfStep { phase } => {
+            push_bytes(out, b"out-of-step ")?;
+            push_phase(out, phase)
+        }
+        Refusal::JobRunning { job } => {
+            push_bytes(out, b"job ")?;
+            push_job(out, job)
+        }
         Refusal::ChangeOutstanding { tci } => {
             push_bytes(out, b"change ")?;
             push_tci(out, tci)
         }
         Refusal::NoMemory => push_bytes(out, b"memory"),
     }
+}
+
+/// Appends two numbers after a word.
+fn push_two(out: &mut Vec<u8>, word: &[u8], first: u64, second: u64) -> Result<(), NoMemory>
+    ensures text { OnOk result (out.new.items ≡ out.old.items
+        ++ (word.now ++ decimal first ++ codes " " ++ decimal second)) }
+{
+    push_bytes(out, word)?;
+    push_number(out, first)?;
+    push_bytes(out, b" ")?;
+    push_number(out, second)
 }
 
 /// Appends what the manager reports.
@@ -120,11 +193,38 @@ fn push_report(out: &mut Vec<u8>, report: &Report) -> Result<(), NoMemory>
             push_bytes(out, b"proved ")?;
             push_lane(out, *lane)
         }
+        Report::Freed { tci } => {
+            push_bytes(out, b"freed ")?;
+            push_tci(out, *tci)
+        }
         Report::GaveUp { tci } => {
             push_bytes(out, b"gave up ")?;
             push_tci(out, *tci)
         }
+        Report::Synced { entities, counter } => {
+            push_two(out, b"synced ", *entities as u64, *counter as u64)
+        }
+        Report::PhaseIn => push_bytes(out, b"phase in"),
+        Report::PhaseOut => push_bytes(out, b"phase out"),
+        Report::ResyncFailed { reason } => {
+            push_bytes(out, b"resync failed ")?;
+            push_reason(out, *reason)
+        }
+        Report::Checked { given, expected } => {
+            push_two(out, b"checked ", *given as u64, *expected as u64)
+        }
         Report::Dropped => push_bytes(out, b"dropped"),
+    }
+}
+
+/// Appends what else is told of a request that was carried out.
+fn push_note(out: &mut Vec<u8>, note: Note) -> Result<(), NoMemory>
+    ensures text { OnOk result (out.new.items ≡ out.old.items ++ note_text note) }
+{
+    match note {
+        Note::Snapshot { entities, counter } => {
+            push_two(out, b"snapshot ", entities as u64, counter as u64)
+        }
     }
 }
 
@@ -144,6 +244,7 @@ fn push_effect(out: &mut Vec<u8>, effect: &Effect) -> Result<(), NoMemory>
             push_bytes(out, b"carried ")?;
             push_number(out, *life)
         }
+        Effect::Noted(note) => push_note(out, *note),
         Effect::Kept => push_bytes(out, b"kept"),
         Effect::Dropped => push_bytes(out, b"dropped"),
         Effect::Refused(refusal) => {
@@ -163,5 +264,50 @@ pub fn push_line(out: &mut Vec<u8>, event: u64, effect: &Effect) -> Result<(), N
     push_number(out, event)?;
     push_bytes(out, b" ")?;
     push_effect(out, effect)?;
+    push_bytes(out, b"\n")
+}
+
+/// Appends bytes in hex, or `-` for none.
+fn push_hex_or_dash(out: &mut Vec<u8>, bytes: &[u8]) -> Result<(), NoMemory>
+    ensures text { OnOk result (out.new.items ≡ out.old.items ++ hex_text bytes.now) }
+{
+    if bytes.is_empty() {
+        return push_bytes(out, b"-");
+    }
+    push_hex(out, bytes)
+}
+
+/// Appends an entity of a copy.
+#[tactic(auto, unfolding(world_spec::specs::Trace::entry_text))]
+fn push_copied(
+    out: &mut Vec<u8>,
+    entity: EntityId,
+    mask: u16,
+    values: &[u8],
+) -> Result<(), NoMemory>
+    ensures text { OnOk result (out.new.items ≡ out.old.items ++ entry_text entity mask values.now) }
+{
+    push_bytes(out, b"copy ")?;
+    push_entity(out, entity)?;
+    push_bytes(out, b" ")?;
+    push_tci(out, mask)?;
+    push_bytes(out, b" ")?;
+    push_hex_or_dash(out, values)
+}
+
+/// Appends the line of an entity of a copy.
+#[tactic(auto, unfolding(world_spec::specs::Trace::entry_line))]
+pub fn push_entry(
+    out: &mut Vec<u8>,
+    event: u64,
+    entity: EntityId,
+    mask: u16,
+    values: &[u8],
+) -> Result<(), NoMemory>
+    ensures text { OnOk result (out.new.items ≡ out.old.items ++ entry_line event entity mask values.now) }
+{
+    push_number(out, event)?;
+    push_bytes(out, b" ")?;
+    push_copied(out, entity, mask, values)?;
     push_bytes(out, b"\n")
 }

@@ -5,7 +5,7 @@ ghost use Rattle.std.specs.Io.KnownBytes.{Appends};
 ghost use Rattle.script_spec.specs.Script.{IsAction, IsHeader};
 ghost use Rattle.link_spec.specs.Link.{Link};
 ghost use Rattle.link_spec.specs.Held.{held_of};
-ghost use Rattle.world_spec.specs.Nodes.{Nodes, first_nodes, delivered, acted, step, nodes_after};
+ghost use Rattle.world_spec.specs.Nodes.{Nodes, first_nodes, delivery, acted, step, nodes_after};
 ghost use Rattle.world_spec.specs.Trace.{line_text, turn_text, trace};
 ghost use Rattle.link_replay.specs.Writing.{WritesSome, WritesFront, EndsRun};
 ghost use Rattle.world_spec.specs.declared.Effect.TheVariants as effect;
@@ -84,6 +84,8 @@ impl Machine {
             Event::Delete { lane, entity } => {
                 self.submit(*lane, *entity, Request::Delete, outbox, out)?;
             }
+            Event::Resync => self.resync(outbox, out)?,
+            Event::Check => self.check(outbox, out)?,
             Event::Deliver { packet } => self.deliver_there(*packet, outbox, out)?,
             Event::Flow { times } => self.flow(*times, outbox, out)?,
             Event::NoiseUnit { bytes } => {
@@ -99,7 +101,7 @@ impl Machine {
         Ok(())
     }
 
-    /// The packet of that number is delivered, where it may come from the link that this is held of.
+    /// The packet of that number is delivery, where it may come from the link that this is held of.
     fn deliver_there(
         &mut self,
         number: u64,
@@ -107,7 +109,7 @@ impl Machine {
         out: &mut Vec<u8>,
     ) -> Result<(), NoMemory>
         ensures follows { OnOk result ((l : Link) → self.old.held ≡ held_of l → shown self.new out.new.items
-            ≡ followed (delivered number (record { ends = self.old.ends; link = l })) self.old out.old.items) }
+            ≡ followed (delivery number (record { ends = self.old.ends; link = l })) self.old out.old.items) }
     {
         self.deliver(number, outbox, out)?;
         Ok(())

@@ -2,7 +2,40 @@
 //! alone.
 #![tactic(auto)]
 
-use omci_types::{Frame, Priority};
+use omci_types::{EntityId, Frame, Priority};
+
+/// How the manager's copy of the unit's database stands to it.
+#[derive(Clone, Copy, Debug, PartialEq, Eq)]
+pub enum Phase {
+    /// No resynchronisation has ended since the manager started.
+    New,
+    /// The last resynchronisation gave a copy, and the manager's changes were followed in it.
+    InStep,
+    /// The copy can't be relied on.
+    Out,
+}
+
+/// What the manager does by itself, command after command.
+#[derive(Clone, Copy, Debug, PartialEq, Eq)]
+pub enum Job {
+    /// It uploads the unit's database, and makes it its copy.
+    Resync,
+}
+
+/// Why a resynchronisation failed.
+#[derive(Clone, Copy, Debug, PartialEq, Eq)]
+pub enum ResyncReason {
+    /// A command that it waited for was given up.
+    GaveUp { tci: u16 },
+    /// A piece was all zeros: the unit has put no database by, or has no such piece of it.
+    Empty,
+    /// A piece names more values than it carries.
+    Truncated { entity: EntityId },
+    /// A piece gave an attribute again.
+    Repeated { entity: EntityId, attribute: u8 },
+    /// No piece gave the unit's counter.
+    Missing,
+}
 
 /// Why a command was not submitted. Nothing was sent, and nothing has changed. They are tested in this order.
 #[derive(Clone, Copy, Debug, PartialEq, Eq)]
@@ -11,7 +44,11 @@ pub enum Refusal {
     Unproven { lane: Priority },
     /// A command is outstanding in the lane.
     Occupied { tci: u16 },
-    /// The command is a change, and a change is outstanding in the other lane.
+    /// The command needs a copy that is in step, and the phase is another one.
+    OutOfStep { phase: Phase },
+    /// A job runs. A get in the high lane is submitted all the same.
+    JobRunning { job: Job },
+    /// The command is a change or a check, and a change is outstanding in the other lane.
     ChangeOutstanding { tci: u16 },
     /// Memory ran out. No step of the machine gives it.
     NoMemory,
@@ -24,8 +61,20 @@ pub enum Report {
     Took { reply: Frame },
     /// The reply to a probe came.
     Proved { lane: Priority },
+    /// The reply to a command came whose job has ended.
+    Freed { tci: u16 },
     /// A command was given up, and its lane is no longer proved.
     GaveUp { tci: u16 },
+    /// A resynchronisation has ended: the copy has so many entities, and this counter.
+    Synced { entities: u32, counter: u8 },
+    /// The phase is in step.
+    PhaseIn,
+    /// The phase was in step, and no longer is.
+    PhaseOut,
+    /// A resynchronisation has failed.
+    ResyncFailed { reason: ResyncReason },
+    /// The reply to a check came: the unit's counter, and the copy's.
+    Checked { given: u8, expected: u8 },
     /// A packet came that is no reply to what is outstanding.
     Dropped,
 }

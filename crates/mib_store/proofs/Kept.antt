@@ -1,5 +1,5 @@
 -- What every database has: a counter, and the entities that the unit made.
-use Rattle.std.proofs.Common.{◌≡◌, ℕ, ◌<◌, Bool, true, false, cond, List, [], ◌∷◌, ◌++◌, length, take, drop, Option, Some, None, is_some, Result, Ok, Err, IfOk, OnOk, OnErr, Ordering, refl, sym, ap, subst, ◌∙◌}
+use Rattle.std.proofs.Common.{◌≡◌, ℕ, ◌+◌, ◌<◌, Bool, true, false, cond, List, [], ◌∷◌, ◌++◌, length, take, drop, Option, Some, None, is_some, Result, Ok, Err, IfOk, OnOk, OnErr, Ordering, refl, sym, ap, subst, ◌∙◌, arith}
 use Rattle.std.specs.Prelude.{◌&&◌, slice_index_or}
 use Rattle.std.specs.declared.cmp.Ordering.TheVariants.{Less, Equal, Greater}
 use Rattle.std.specs.Ordering.{is_eq}
@@ -8,7 +8,7 @@ use Rattle.std.specs.Map.{lookup}
 use Rattle.std.specs.BTreeMap.{is_at}
 use Rattle.std.proofs.Math.Seq.{take-add}
 use Rattle.std.proofs.lemmas.Bool.{false≢true}
-use Rattle.std.proofs.lemmas.List.{get_or-map}
+use Rattle.std.proofs.lemmas.List.{get_or-map, take-take, drop-take}
 use Rattle.omci_types.specs.declared.EntityId.{EntityId}
 use Rattle.omci_types.specs.declared.Code.{Code}
 use Rattle.omci_core.specs.declared.errors.NoMemory.{NoMemory}
@@ -23,7 +23,7 @@ use Rattle.mib_laws.proofs.Counting.{create_counts}
 use Rattle.mib_laws.proofs.UnitEntities.{keeps_create}
 use Rattle.mib_store.specs.declared.entry.Entry.{Entry}
 use Rattle.mib_store.specs.Layout.{cut}
-use Rattle.mib_store.specs.Entries.{database_of, held_of, values_in, entry_at, no_entry}
+use Rattle.mib_store.specs.Entries.{database_of, held_of, held_in, maker_of, values_in, width_in, entry_at, no_entry}
 use Rattle.mib_store.proofs.Effects.{values_in_row}
 
 abbrev managed_or : Managed → Option Managed → Managed
@@ -81,6 +81,41 @@ unfolding values_in
 no_values_seen es place other lt row =
     let e : Entry = entry_at es place in
     ap (λ o. bytes_of (option_map_or (λ (r : Row). cut r.attributes e.values) o [])) (sym row) ∙ ap (λ (p : EntityId × Managed). bytes_of p.1.values) (sym (get_or-map held_of es place no_entry other lt))
+
+-- they tell the values
+pub whole_cut : (attributes : List Attribute) (bytes : List ℕ) → cut attributes bytes ≡ cut attributes (take (whole_width attributes) bytes)
+whole_cut [] bytes = refl
+whole_cut (one ∷ rest) bytes =
+    let width : ℕ = one.width + whole_width rest in
+    let head : take one.width (take width bytes) ≡ take one.width bytes = take-take one.width width bytes (omega arith) in
+    let tail : drop one.width (take width bytes) ≡ take (whole_width rest) (drop one.width bytes) = drop-take one.width (whole_width rest) bytes in
+    ap (λ (vs : Values). (one.number, take one.width bytes) ∷ vs) (whole_cut rest (drop one.width bytes))
+    ∙ ap (λ (v : List ℕ). (one.number, v) ∷ cut rest (take (whole_width rest) (drop one.width bytes))) (sym head)
+    ∙ ap (λ (v : List ℕ). (one.number, take one.width (take width bytes)) ∷ cut rest v) (sym tail)
+
+pub held_seen : (es : List Entry) (place : ℕ) (other : EntityId × Managed) (r : Row) → place < length es → class_row (entry_at es place).entity.class ≡ Some r
+    → slice_index_or (database_of es) place other ≡ held_in (slice_index_or (database_of es) place other).0 (take (whole_width r.attributes) (entry_at es place).values)
+held_seen es place other r lt row =
+    let e : Entry = entry_at es place in
+    let bytes : List ℕ = take (whole_width r.attributes) e.values in
+    let same : values_in e.entity.class e.values ≡ values_in e.entity.class bytes = values_in_row e.entity.class r e.values row ∙ whole_cut r.attributes e.values ∙ sym (values_in_row e.entity.class r bytes row) in
+    let seen : slice_index_or (database_of es) place other ≡ held_of e = get_or-map held_of es place no_entry other lt in
+    seen ∙ ap (λ (v : Values). (e.entity, record { maker = maker_of e.entity.class; values = v })) same ∙ ap (λ (p : EntityId × Managed). held_in p.0 bytes) (sym seen)
+
+pub held_none : (es : List Entry) (place : ℕ) (other : EntityId × Managed) → place < length es → class_row (entry_at es place).entity.class ≡ None
+    → slice_index_or (database_of es) place other ≡ held_in (slice_index_or (database_of es) place other).0 []
+unfolding values_in
+held_none es place other lt row =
+    let e : Entry = entry_at es place in
+    let seen : slice_index_or (database_of es) place other ≡ held_of e = get_or-map held_of es place no_entry other lt in
+    let none : (bytes : List ℕ) → values_in e.entity.class bytes ≡ [] = λ bytes. ap (λ o. option_map_or (λ (r : Row). cut r.attributes bytes) o []) row in
+    seen ∙ ap (λ (v : Values). (e.entity, record { maker = maker_of e.entity.class; values = v })) (none e.values ∙ sym (none [])) ∙ ap (λ (p : EntityId × Managed). held_in p.0 []) (sym seen)
+
+pub width_seen : (es : List Entry) (place : ℕ) (other : EntityId × Managed) (o : Option Row) → place < length es → class_row (entry_at es place).entity.class ≡ o
+    → option_map_or (λ (r : Row). whole_width r.attributes) o 0 ≡ width_in (slice_index_or (database_of es) place other).0.class
+width_seen es place other o lt row =
+    ap (λ o. option_map_or (λ (r : Row). whole_width r.attributes) o 0) (sym row)
+    ∙ ap (λ (p : EntityId × Managed). width_in p.0.class) (sym (get_or-map held_of es place no_entry other lt))
 
 -- a create that was answered, and one that had no memory
 pub created_whole : (r : Result Code NoMemory) (old new : List Entry) (one : EntityId) (given : List ℕ) → OnOk r (database_of new ≡ (create_outcome one given (database_of old)).1) → OnErr r (database_of new ≡ database_of old)

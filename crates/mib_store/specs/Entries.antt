@@ -6,6 +6,7 @@ use Rattle.omci_types.specs.declared.EntityId.{EntityId}
 use Rattle.class_spec.specs.declared.Maker.{Maker}
 use Rattle.class_spec.specs.declared.Maker.TheVariants.{Manager as by_manager}
 use Rattle.class_spec.specs.Classes.{class_row}
+use Rattle.entity_classes.specs.Rule.{whole_width}
 use Rattle.mib_spec.specs.Database.{Database, Managed, Values, entity_cmp, flag, managed_of, with_entity, without_entity, has_unit_entities}
 use Rattle.mib_spec.specs.declared.TheConstants.{MOST_ENTITIES, UNIT_ENTITIES}
 use Rattle.mib_spec.specs.Requests.{is_unit_made}
@@ -18,6 +19,14 @@ values_in class bytes = option_map_or (λ row. cut row.attributes bytes) (class_
 
 unfoldable pub maker_of : ℕ → Maker
 maker_of class = option_map_or (λ row. row.maker) (class_row class) by_manager
+
+-- an entity of the maker of its class, whose values stand in these bytes
+abbrev pub held_in : EntityId → List ℕ → EntityId × Managed
+held_in one bytes = (one, record { maker = maker_of one.class; values = values_in one.class bytes })
+
+-- the bytes that the values of a class have together, none for an unknown class
+abbrev pub width_in : ℕ → ℕ
+width_in class = option_map_or (λ row. whole_width row.attributes) (class_row class) 0
 
 -- an entry as the database has it
 abbrev pub held_of : Entry → EntityId × Managed

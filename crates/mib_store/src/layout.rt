@@ -140,3 +140,12 @@ pub(crate) fn put(bytes: &[u8], into: &mut [u8], at: usize)
 {
     into[at..at + bytes.len()].copy_from_slice(bytes);
 }
+
+/// The first bytes of the values, so many.
+pub(crate) fn front(values: &[u8; ROOM], width: usize) -> &[u8]
+    requires { width ≤ ROOM }
+    ensures bytes { result.now ≡ take width values.now }
+    ensures len { length result.now ≡ width }
+{
+    &values[..width]
+}

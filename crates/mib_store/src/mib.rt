@@ -9,6 +9,7 @@ ghost use Rattle.mib_spec.specs.Requests.{get_outcome, reset, sense_outcome};
 
 use crate::answers::{GetAnswer, SetAnswer};
 use crate::first::{first_entries, image_of};
+use crate::layout::front;
 use crate::requests::{create_in, delete_in, get_in, reset_in, sense_in, set_in, software_in};
 use crate::table::{Table, counter, grow};
 use class_spec::{CREATE_ROOM, SET_ROOM};
@@ -41,6 +42,8 @@ impl Model for Mib {
 }
 
 impl Mib {
+    ghost use Rattle.mib_store.specs.Entries.{held_in, width_in};
+
     /// The first database, with these software images. It takes memory.
     pub fn new(alloc: Global, software: Software) -> Result<Mib, NoMemory>
         ensures { IfOk result (λ mib. mib ≡ first software) }
@@ -156,15 +159,20 @@ impl Mib {
     }
 
     /// The values of the entity in this place, counted from 0 in ascending order: the bytes of all
-    /// its attributes, one after the other in attribute order. It takes no memory.
+    /// its attributes, one after the other in attribute order. The entity has the maker of its
+    /// class, and the values that stand in these bytes. It takes no memory.
     pub fn values(&self, place: usize) -> &[u8]
         requires { place < length self.now }
-        ensures { (other : EntityId × Managed)
+        ensures bytes { (other : EntityId × Managed)
             → result.now ≡ bytes_of (slice_index_or self.now place other).1.values }
+        ensures held { (other : EntityId × Managed) → slice_index_or self.now place other
+            ≡ held_in (slice_index_or self.now place other).0 result.now }
+        ensures width { (other : EntityId × Managed)
+            → length result.now ≡ width_in (slice_index_or self.now place other).0.class }
     {
         let entry = self.table.entry(place);
         match class(entry.entity.class) {
-            Some(class) => &entry.values[..class.width()],
+            Some(class) => front(&entry.values, class.width()),
             None => &[],
         }
     }

@@ -3,7 +3,7 @@ use Rattle.std.proofs.Common.{◌≡◌, ◌≢◌, ℕ, ◌+◌, ◌≤◌, Lis
 use Rattle.std.proofs.lemmas.Option.{slice_get_within}
 use Rattle.omci_types.specs.declared.Priority.{Priority}
 use Rattle.mib_spec.specs.Database.{Database}
-use Rattle.history_spec.specs.History.{Note, CarriedOut, TookReply, Noted}
+use Rattle.history_spec.specs.History.{Remark, CarriedOut, TookReply, Remarked}
 use Rattle.moves_spec.specs.Channel.{Transaction, LinkPacket, RequestOf, ReplyTo, View}
 use Rattle.moves_spec.specs.Moves.{with_packet, with_requests, with_floor_down, with_floor_up, with_unit_start, with_manager_start, with_written}
 use Rattle.moves_laws.proofs.Parts.{Asks, Replies, Owner, SoundLane}
@@ -273,8 +273,8 @@ lane_took l v id r h = record {
   };
 }
 
-pub lane_noted : (l : Priority) (v : View) (n : Note) → SoundLane l v
-    → SoundLane l (with_written (Noted n) v)
+pub lane_noted : (l : Priority) (v : View) (n : Remark) → SoundLane l v
+    → SoundLane l (with_written (Remarked n) v)
 lane_noted l v n h = record {
   order = h.order;
   held = record {

@@ -79,9 +79,9 @@ kept_by_move Notify w h = record {
   once = h.once;
   answered = h.answered;
 }
-kept_by_move (Write note) w h = record {
-  low = lane_noted Low (lane_view Low w) note h.low;
-  high = lane_noted High (lane_view High w) note h.high;
+kept_by_move (Write remark) w h = record {
+  low = lane_noted Low (lane_view Low w) remark h.low;
+  high = lane_noted High (lane_view High w) remark h.high;
   once = h.once;
   answered = h.answered;
 }

@@ -3,7 +3,7 @@ use Rattle.std.specs.Prelude.{ℕ, ◌+◌, Bool, true, false, ◌&&◌, List, [
 use Rattle.omci_types.specs.declared.Priority.{Priority}
 use Rattle.omci_types.specs.declared.Priority.TheVariants.{Low, High}
 use Rattle.mib_spec.specs.Database.{Database}
-use Rattle.history_spec.specs.History.{Note, Entry, CarriedOut, TookReply, Noted}
+use Rattle.history_spec.specs.History.{Remark, Entry, CarriedOut, TookReply, Remarked}
 use Rattle.link_spec.specs.Link.{is_young}
 use Rattle.moves_spec.specs.Channel.{Transaction, place_number, LinkPacket, RequestOf, ReplyTo, Unasked, KeptReply, Outstanding, Channel, View, lane_view, with_lane_view}
 
@@ -28,7 +28,7 @@ pub data Move : Type 0 where
   -- the unit sends a notice
   Notify : Move
   -- something is noted in the history
-  Write : (note : Note) → Move
+  Write : (remark : Remark) → Move
   -- the unit starts
   UnitStarts : Move
   -- a manager starts; the first number of a lane is that of the place given for it
@@ -258,8 +258,8 @@ after_move (RequestComes at execution) w =
     request_at at execution w (slice_get w.shared.packets at)
 after_move (ReplyComes at wanted) w = reply_at at wanted w (slice_get w.shared.packets at)
 after_move Notify w = record w { shared = (with_packet Unasked (lane_view Low w)).shared }
-after_move (Write note) w =
-    record w { shared = (with_written (Noted note) (lane_view Low w)).shared }
+after_move (Write remark) w =
+    record w { shared = (with_written (Remarked remark) (lane_view Low w)).shared }
 after_move UnitStarts w = after_unit_start w
 after_move (ManagerStarts low high) w = after_manager_start low high w
 

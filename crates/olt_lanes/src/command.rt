@@ -1,26 +1,23 @@
-//! Commands: what the manager asks of an entity.
+//! Commands: what the manager asks of an entity, and why.
 
 ghost use Rattle.std.specs.Prelude.{◌≡◌};
 ghost use Rattle.message_spec.specs.Reading.{RequestWindow};
-ghost use Rattle.lane_spec.specs.Command.{probe_command, ask, command_frame, is_changing};
+ghost use Rattle.lane_spec.specs.Command.{probe_command, ask, check_command, job_command, is_probe};
+ghost use Rattle.lane_spec.specs.Command.{command_frame, is_changing};
 
-use crate::{EntityId, Frame, Request};
+use crate::{EntityId, Frame, Purpose, Request};
+use class_spec::ONU_DATA;
 use omci_contents::{Message, write_message};
 use std::marker::Model;
-
-/// ONU data, which has MIB data sync.
-const ONU_DATA: EntityId = EntityId {
-    class: 2,
-    instance: 0,
-};
 
 /// A mask that names attribute 1 alone. Attribute 1 of ONU data is MIB data sync.
 const FIRST_ATTRIBUTE: u16 = 0x8000;
 
-/// A request to an entity, or a probe: a get of MIB data sync that proves its lane by any answer.
+/// A request to an entity, and why the manager sends it. A probe is a get of MIB data sync that
+/// proves its lane by any answer. None of its makers takes memory.
 #[derive(Drop)]
 pub struct Command {
-    probe: bool,
+    purpose: Purpose,
     entity: EntityId,
     request: Request,
 }
@@ -31,9 +28,32 @@ impl Model for Command {
 
     ghost Value = { lane.Command };
 
-    ghost view = { λ c. record { probe = c.probe; entity = c.entity; request = c.request } };
+    ghost view = { λ c. record { purpose = c.purpose; entity = c.entity; request = c.request } };
 
     ghost invariant = { λ c. RequestWindow c.request };
+}
+
+/// Whether a request changes what the unit holds or runs.
+pub fn is_change(request: &Request) -> bool
+    ensures value { result ≡ is_changing request.now }
+{
+    match request {
+        Request::Create { .. }
+        | Request::Delete
+        | Request::Set { .. }
+        | Request::Reset
+        | Request::Activate { .. }
+        | Request::Commit
+        | Request::Reboot { .. } => true,
+        Request::Get { .. }
+        | Request::Alarms { .. }
+        | Request::AlarmsNext { .. }
+        | Request::Upload
+        | Request::UploadNext { .. }
+        | Request::Start { .. }
+        | Request::Section { .. }
+        | Request::End { .. } => false,
+    }
 }
 
 impl Command {
@@ -41,8 +61,48 @@ impl Command {
     pub fn probe() -> Command
         ensures value { result ≡ probe_command }
     {
+        Command::get_counter(Purpose::Probe)
+    }
+
+    /// A get of MIB data sync, for the counter's sake.
+    pub fn check() -> Command
+        ensures value { result ≡ check_command }
+    {
+        Command::get_counter(Purpose::Check)
+    }
+
+    /// A request to an entity, which a caller submits. The window that a start of a download asks
+    /// for must be 1 to 256.
+    pub fn ask(entity: EntityId, request: Request) -> Command
+        requires { RequestWindow request }
+        ensures value { result ≡ ask entity request }
+    {
         Command {
-            probe: true,
+            purpose: Purpose::Submission,
+            entity,
+            request,
+        }
+    }
+
+    /// A request to an entity, which the running job sends. The window that a start of a download
+    /// asks for must be 1 to 256.
+    pub fn job(entity: EntityId, request: Request) -> Command
+        requires { RequestWindow request }
+        ensures value { result ≡ job_command entity request }
+    {
+        Command {
+            purpose: Purpose::Job,
+            entity,
+            request,
+        }
+    }
+
+    /// A get of MIB data sync.
+    fn get_counter(purpose: Purpose) -> Command
+        ensures value { result ≡ record probe_command { purpose = purpose } }
+    {
+        Command {
+            purpose,
             entity: ONU_DATA,
             request: Request::Get {
                 mask: FIRST_ATTRIBUTE,
@@ -50,45 +110,35 @@ impl Command {
         }
     }
 
-    /// A request to an entity. The window that a start of a download asks for must be 1 to 256.
-    pub fn ask(entity: EntityId, request: Request) -> Command
-        requires { RequestWindow request }
-        ensures value { result ≡ ask entity request }
+    /// Why it is sent.
+    pub fn purpose(&self) -> Purpose
+        ensures value { result ≡ self.now.purpose }
     {
-        Command {
-            probe: false,
-            entity,
-            request,
-        }
+        self.purpose
+    }
+
+    /// The entity that it asks.
+    pub fn entity(&self) -> EntityId
+        ensures value { result ≡ self.now.entity }
+    {
+        self.entity
+    }
+
+    /// What it asks of the entity.
+    pub fn request(&self) -> Request
+        ensures value { result ≡ self.now.request }
+        ensures window { RequestWindow result }
+    {
+        self.request
     }
 
     /// Whether it is a probe.
     pub fn is_probe(&self) -> bool
-        ensures value { result ≡ self.now.probe }
+        ensures value { result ≡ is_probe self.now.purpose }
     {
-        self.probe
-    }
-
-    /// Whether it changes what the unit holds or runs.
-    pub fn is_change(&self) -> bool
-        ensures value { result ≡ is_changing self.now.request }
-    {
-        match self.request {
-            Request::Create { .. }
-            | Request::Delete
-            | Request::Set { .. }
-            | Request::Reset
-            | Request::Activate { .. }
-            | Request::Commit
-            | Request::Reboot { .. } => true,
-            Request::Get { .. }
-            | Request::Alarms { .. }
-            | Request::AlarmsNext { .. }
-            | Request::Upload
-            | Request::UploadNext { .. }
-            | Request::Start { .. }
-            | Request::Section { .. }
-            | Request::End { .. } => false,
+        match self.purpose {
+            Purpose::Probe => true,
+            Purpose::Submission | Purpose::Check | Purpose::Job => false,
         }
     }
 

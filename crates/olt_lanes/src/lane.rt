@@ -1,11 +1,13 @@
 //! A lane and the command that waits in it.
 
-ghost use Rattle.std.specs.Prelude.{◌≡◌, ◌≤◌, ◌<◌, ◌^◌, ◌++◌, length, not, true, None, option_map, All, IfNone, OnOk, OnErr};
+ghost use Rattle.std.specs.Prelude.{◌≡◌, ◌≤◌, ◌<◌, ◌^◌, ◌++◌, length, not, true, None, option_map};
+ghost use Rattle.std.specs.Prelude.{option_copied, All, IfNone, OnOk, OnErr};
 ghost use Rattle.tci_spec.specs.Tci.{IsNumber, tci_of};
 ghost use Rattle.lane_spec.specs.Command.{answers, command_packets};
-ghost use Rattle.lane_spec.specs.Lane.{new_lane, with_command, next_tci, timeout_of, lane_tick, lane_reply, is_probing, is_changed_by, waiting_packets};
+ghost use Rattle.lane_spec.specs.Lane.{new_lane, with_command, next_tci, timeout_of, lane_tick};
+ghost use Rattle.lane_spec.specs.Lane.{lane_reply, is_changed_by, waiting_packets};
 
-use crate::command::Command;
+use crate::command::{Command, is_change};
 use crate::{Frame, LaneTick, NoMemory, Packets, Priority};
 use lane_spec::{HIGH_TIMEOUT, LOW_TIMEOUT, MOST_REPEATS};
 use omci_core::{Packet, next_number};
@@ -34,7 +36,12 @@ impl Model for Waiting {
 
     ghost Value = { lane.Waiting };
 
-    ghost view = { λ w. record { tci = w.frame.tci; command = w.command; ticks = w.ticks; repeats = w.repeats } };
+    ghost view = { λ w. record {
+      tci = w.frame.tci;
+      command = w.command;
+      ticks = w.ticks;
+      repeats = w.repeats;
+    } };
 
     ghost invariant = { λ w. IsWaiting w.command w.frame w.ticks w.repeats };
 }
@@ -65,8 +72,10 @@ impl Waiting {
 
     /// Adds the packets that the command sends.
     fn packets(&self, out: &mut Packets) -> Result<(), NoMemory>
-        ensures ok { OnOk result (out.new ≡ out.old ++ command_packets self.now.tci self.now.command) }
-        ensures whole { OnOk result (All (λ packet. length packet ≡ 48) (command_packets self.now.tci self.now.command)) }
+        ensures ok { OnOk result
+            (out.new ≡ out.old ++ command_packets self.now.tci self.now.command) }
+        ensures whole { OnOk result (All (λ packet. length packet ≡ 48)
+            (command_packets self.now.tci self.now.command)) }
         ensures err { OnErr result (out.new ≡ out.old) }
     {
         let mut bytes = [0; 48];
@@ -93,7 +102,12 @@ impl Model for Lane {
 
     ghost Value = { lane.Lane };
 
-    ghost view = { λ l. record { priority = l.priority; proved = l.proved; next = l.next; outstanding = l.outstanding } };
+    ghost view = { λ l. record {
+      priority = l.priority;
+      proved = l.proved;
+      next = l.next;
+      outstanding = l.outstanding;
+    } };
 
     ghost invariant = { λ l. IsNumber l.next };
 }
@@ -120,8 +134,8 @@ fn timeout_of(priority: Priority) -> u8
 }
 
 impl Lane {
-    /// A lane that isn't proved and has nothing outstanding. Its next command draws this number, which is 1 to
-    /// 32,767.
+    /// A lane that isn't proved and has nothing outstanding. Its next command draws this number,
+    /// which is 1 to 32,767.
     pub fn new(priority: Priority, number: u16) -> Lane
         requires { IsNumber number }
         ensures value { result ≡ new_lane priority number }
@@ -152,13 +166,13 @@ impl Lane {
         }
     }
 
-    /// Whether the outstanding command is a probe.
-    pub fn is_probing(&self) -> bool
-        ensures value { result ≡ is_probing self.now.outstanding }
+    /// The outstanding command. None exactly where nothing is outstanding.
+    pub fn command(&self) -> Option<&Command>
+        ensures value { option_copied result ≡ option_map (λ w. w.command) self.now.outstanding }
     {
         match &self.outstanding {
-            None => false,
-            Some(waiting) => waiting.command.is_probe(),
+            None => None,
+            Some(waiting) => Some(&waiting.command),
         }
     }
 
@@ -168,12 +182,12 @@ impl Lane {
     {
         match &self.outstanding {
             None => false,
-            Some(waiting) => waiting.command.is_change(),
+            Some(waiting) => is_change(&waiting.command.request()),
         }
     }
 
-    /// Makes the command the outstanding one, and draws its number. Answers its TCI. Nothing may be outstanding
-    /// before.
+    /// Makes the command the outstanding one, and draws its number. Answers its TCI. Nothing may be
+    /// outstanding before.
     pub fn send(&mut self, command: Command) -> u16
         requires { self.old.outstanding ≡ None }
         ensures lane { self.new ≡ with_command command self.old }
@@ -185,8 +199,8 @@ impl Lane {
         tci
     }
 
-    /// Takes a frame, where it answers the outstanding command. Nothing is outstanding then, and an answered probe
-    /// has proved the lane. A frame that isn't taken changes nothing.
+    /// Takes a frame, where it answers the outstanding command. Nothing is outstanding then, and an
+    /// answered probe has proved the lane. A frame that isn't taken changes nothing.
     #[tactic(auto, unfolding(lane_spec::specs::Lane::lane_reply))]
     pub fn reply(&mut self, frame: &Frame) -> bool
         ensures lane { self.new ≡ (lane_reply frame.now self.old).lane }
@@ -205,8 +219,8 @@ impl Lane {
         true
     }
 
-    /// A second passes. A command whose time is over is to be sent again, or is given up where it was sent again
-    /// twice; a lane that gives up is no longer proved.
+    /// A second passes. A command whose time is over is to be sent again, or is given up where it
+    /// was sent again twice; a lane that gives up is no longer proved.
     #[tactic(auto, unfolding(lane_spec::specs::Lane::lane_tick))]
     pub fn tick(&mut self) -> LaneTick
         ensures lane { self.new ≡ (lane_tick self.old).lane }
@@ -231,11 +245,13 @@ impl Lane {
         LaneTick::GaveUp { tci }
     }
 
-    /// Adds the packets that the outstanding command sends each time, all under its TCI; none where nothing is
-    /// outstanding. `NoMemory` where there is no room for them; the list is then as it was.
+    /// Adds the packets that the outstanding command sends each time, all under its TCI; none where
+    /// nothing is outstanding. `NoMemory` where there is no room for them; the list is then as it
+    /// was.
     pub fn packets(&self, out: &mut Packets) -> Result<(), NoMemory>
         ensures ok { OnOk result (out.new ≡ out.old ++ waiting_packets self.now.outstanding) }
-        ensures whole { OnOk result (All (λ packet. length packet ≡ 48) (waiting_packets self.now.outstanding)) }
+        ensures whole { OnOk result (All (λ packet. length packet ≡ 48)
+            (waiting_packets self.now.outstanding)) }
         ensures err { OnErr result (out.new ≡ out.old) }
     {
         match &self.outstanding {

@@ -1,13 +1,11 @@
 -- A frame that a lane doesn't take changes nothing.
-use Rattle.std.proofs.Common.{◌≡◌, ℕ, List, [], Bool, true, false, Option, Some, None, refl, sym, ap, ◌∙◌}
+use Rattle.std.proofs.Common.{◌≡◌, Bool, true, false, Option, Some, None, refl, ap, ◌∙◌}
 use Rattle.omci_types.specs.declared.Frame.{Frame}
 use Rattle.omci_types.specs.declared.Priority.{Priority}
 use Rattle.omci_types.specs.declared.Priority.TheVariants.{Low, High}
 use Rattle.lane_spec.specs.Command.{answers}
 use Rattle.lane_spec.specs.Lane.{Lane, Waiting, lane_reply, reply_to, reply_by}
-use Rattle.frame_spec.specs.Baseline.{packet_frame}
-use Rattle.tci_spec.specs.Tci.{priority_of}
-use Rattle.manager_spec.specs.Manager.{Manager, lane_in, with_lane, after_packet, for_frame, take_if}
+use Rattle.manager_spec.specs.Manager.{Manager, lane_in, with_lane}
 
 untaken_lane : (f : Frame) (l : Lane) → (lane_reply f l).taken ≡ false → (lane_reply f l).lane ≡ l
 unfolding lane_reply
@@ -25,18 +23,7 @@ same_lane : (p : Priority) (m : Manager) → with_lane p (lane_in p m) m ≡ m
 same_lane Low m = refl
 same_lane High m = refl
 
-pub untaken : (p : Priority) (f : Frame) (m : Manager) → (lane_reply f (lane_in p m)).taken ≡ false → with_lane p (lane_reply f (lane_in p m)).lane m ≡ m
+pub untaken : (p : Priority) (f : Frame) (m : Manager)
+    → (lane_reply f (lane_in p m)).taken ≡ false
+    → with_lane p (lane_reply f (lane_in p m)).lane m ≡ m
 untaken p f m e = ap (λ l. with_lane p l m) (untaken_lane f (lane_in p m) e) ∙ same_lane p m
-
--- no packet makes the manager send
-pub nothing_sent : (bytes : List ℕ) (m : Manager) → (after_packet bytes m).sendings ≡ []
-unfolding after_packet
-nothing_sent bytes m = from (packet_frame bytes)
-  where
-    by : (b : Bool) (p : Priority) (f : Frame) → (take_if b p f m).sendings ≡ []
-    by true p f = refl
-    by false p f = refl
-
-    from : (o : Option Frame) → (for_frame o m).sendings ≡ []
-    from None = refl
-    from (Some f) = by (lane_reply f (lane_in (priority_of f.tci) m)).taken (priority_of f.tci) f

@@ -1,7 +1,7 @@
 -- What callers see of a manager: the manager, and whether memory ran out in an earlier call.
-use Rattle.std.specs.Prelude.{◌≡◌, Bool, true, false, ℕ, List, length}
+use Rattle.std.specs.Prelude.{◌≡◌, Bool, false, ℕ, List, length}
 use Rattle.std.specs.List.{All}
-use Rattle.manager_spec.specs.Manager.{Manager, Sending, packets_of}
+use Rattle.manager_spec.specs.Manager.{Manager}
 
 pub record State : Type 0 where
   pub spent : Bool

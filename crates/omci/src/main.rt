@@ -1,4 +1,4 @@
-//! The program `omci`: the top call over the words of the command line, standard input and standard output.
+//! The program `omci`: the top call over the words of the command line, standard input, standard output and a file.
 #![tactic(auto)]
 
 ghost use Rattle.std.specs.Prelude.{◌≡◌, drop, map, IfOk};
@@ -6,7 +6,8 @@ ghost use Rattle.std.specs.String.{string_bytes};
 
 use omci_core::{NoMemory, StdSink, StdSource, Words};
 use omci_top::{Status, omci};
-use std::alloc::Global;
+use slot_disk::FileDisk;
+use std::alloc::{AllocError, Global};
 use std::env;
 use std::io::{self, ErrorKind};
 use std::process::ExitCode;
@@ -21,6 +22,12 @@ enum NoWords {
 
 impl From<NoMemory> for NoWords {
     fn from(_error: NoMemory) -> NoWords {
+        NoWords::NoMemory
+    }
+}
+
+impl From<AllocError> for NoWords {
+    fn from(_error: AllocError) -> NoWords {
         NoWords::NoMemory
     }
 }
@@ -51,13 +58,18 @@ fn words_of<R: Env + AllocGlobal>(rt: &R) -> Result<Words, NoWords> {
     Ok(words_after(rt.alloc(), &arguments)?)
 }
 
+/// The top call over the words of the command line, standard input, standard output and a file.
+fn run(rt: &HostRuntime) -> Result<Status, NoWords> {
+    let words = words_of(rt)?;
+    let mut source = StdSource::new(rt.reader());
+    let mut sink = StdSink::new(io::writer(rt));
+    let disk = FileDisk::new(rt.clone()?);
+    Ok(omci(rt.alloc(), &words, &mut source, &mut sink, disk).status)
+}
+
 fn main(rt: HostRuntime) -> ExitCode {
-    let status = match words_of(&rt) {
-        Ok(words) => {
-            let mut source = StdSource::new(rt.reader());
-            let mut sink = StdSink::new(io::writer(&rt));
-            omci(rt.alloc(), &words, &mut source, &mut sink)
-        }
+    let status = match run(&rt) {
+        Ok(status) => status,
         Err(NoWords::NotText) => Status::Usage,
         Err(NoWords::NoMemory) => Status::NoMemory,
     };

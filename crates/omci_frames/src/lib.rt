@@ -12,12 +12,15 @@ ghost use Rattle.frame_spec.specs.Baseline.{IsFrame, spelling, fault_of, frame_o
 ghost use Rattle.frame_laws.specs.Faults.{IsDeviceFault, IsShortFault, IsTrailerFault, IsCheckFault};
 
 mod fields;
+mod stream;
 
 use fields::{check_of, contents_at, put_check, put_contents, put_kind, put_number, put_trailer};
 pub use fields::{four_at, number_at};
 use frame_spec::{BASELINE_DEVICE, BASELINE_TRAILER, CHECKED_BYTES};
 pub use frame_spec::{FRAME_BYTES, FrameFault};
 pub use omci_types::{EntityId, Frame};
+pub use stream::Frames;
+pub use stream_spec::{StreamFault, Taken};
 
 /// Writes the frame's one spelling.
 pub fn encode(frame: &Frame, into: &mut [u8; FRAME_BYTES])
@@ -97,9 +100,9 @@ pub fn frame_at(bytes: &[u8]) -> Frame
     }
 }
 
-// The first fault of the bytes.
+/// The first fault of the bytes: that of [`decode`], or none where they begin with a frame.
 #[tactic(auto, unfolding(frame_spec::specs::Baseline::fault_of, frame_spec::specs::Baseline::trailer_at, frame_spec::specs::Baseline::given_check, frame_spec::specs::Baseline::computed_check))]
-fn first_fault(bytes: &[u8]) -> Option<FrameFault>
+pub fn first_fault(bytes: &[u8]) -> Option<FrameFault>
     ensures value { result ≡ fault_of bytes.now }
 {
     if bytes.len() >= 4 && bytes[3] != BASELINE_DEVICE {

@@ -1,5 +1,4 @@
-//! What each part does where no clause says it, and whole runs of the top call over the sources and
-//! sinks in memory. The crate has tests alone.
+//! What each part below the two ends does where no clause says it. The crate has tests alone.
 #![tactic(auto)]
 
 #[cfg(test)]
@@ -13,12 +12,6 @@ mod core_types;
 #[cfg(test)]
 mod database;
 #[cfg(test)]
-mod failing;
-#[cfg(test)]
 mod frames;
-#[cfg(test)]
-mod harness;
-#[cfg(test)]
-mod runs;
 #[cfg(test)]
 mod script;

@@ -17,7 +17,9 @@ create low 00272 5 0030Ab\n\
 set high 272 65535 c00F -\n\
 # \u{e9}\0\t\r in the middle\n\
 delete low 272 5\n\
-reset high";
+reset high\n\
+resync\r\n\
+check";
 
 /// Lines of the link, of time and of power.
 const OTHERS: &str = "omci 1 16 1 1 00\n\
@@ -97,7 +99,7 @@ fn commands_are_read(rt: HostRuntime) -> Result<(), Fail> {
     };
     let values = Bytes::of(alloc, &[0, 0x30, 0xab])?;
     let none = Bytes::of(alloc, &[])?;
-    assert_eq!(rt; script.len(), 6);
+    assert_eq!(rt; script.len(), 8);
     assert!(rt; has_event(&script, 0, &Event::Probe { lane }));
     assert!(rt;
         has_event(
@@ -135,6 +137,8 @@ fn commands_are_read(rt: HostRuntime) -> Result<(), Fail> {
     );
     assert!(rt; has_event(&script, 4, &Event::Delete { lane, entity: PORT }));
     assert!(rt; has_event(&script, 5, &Event::Reset { lane: high }));
+    assert!(rt; has_event(&script, 6, &Event::Resync));
+    assert!(rt; has_event(&script, 7, &Event::Check));
     Ok(())
 }
 
@@ -204,7 +208,11 @@ fn faults_of_events(rt: HostRuntime) -> Result<(), Fail> {
         ("start olt", 1),
         ("start olt x", 1),
         ("start olt 1 1 1", 1),
-        ("resync", 1),
+        ("resync low", 1),
+        ("resync ", 1),
+        ("resyncs", 1),
+        ("check 1", 1),
+        ("check\t", 1),
         ("deliver ", 2),
         ("deliver -1", 2),
         ("deliver +1", 2),
@@ -343,7 +351,9 @@ get low 2 0 8000\n\
 create low 272 5 0030ab\n\
 set high 272 65535 c00f -\n\
 delete low 272 5\n\
-reset high\n";
+reset high\n\
+resync\n\
+check\n";
     assert_eq!(rt; commands.as_slice(), wanted.as_bytes());
     let others = print(alloc, &read(alloc, OTHERS.as_bytes())?)?;
     let wanted = "omci 1 16 1 1 00\n\

@@ -1,5 +1,5 @@
 -- What the answer to an input says, from what a run of it came to.
-use Rattle.std.proofs.Common.{◌≡◌, ℕ, List, Option, Some, Ok, Err, sym, ◌∙◌, ap, subst, inr}
+use Rattle.std.proofs.Common.{◌≡◌, ℕ, List, Option, Some, Ok, Err, refl, sym, ◌∙◌, ap, subst, inr}
 use Rattle.std.specs.Io.KnownBytes.{Appends}
 use Rattle.std.specs.List.{All}
 use Rattle.script_spec.specs.Script.{Script, Header, Action, IsAction}
@@ -9,14 +9,15 @@ use Rattle.script_spec.specs.Reading.{reading}
 use Rattle.script_laws.proofs.Scripts.{reading-Writes, reading_range}
 use Rattle.world_spec.specs.Trace.{trace}
 use Rattle.tci_spec.specs.Tci.{IsNumber}
-use Rattle.history_spec.specs.History.{Once, Answered}
+use Rattle.history_spec.specs.History.{Once, Answered, SyncedRight}
 use Rattle.world_spec.specs.History.{history_of}
 use Rattle.omci_top.specs.Streams.{ReadsWhole}
 use Rattle.omci_top.specs.Texts.{input_text, answer_of, answer_to}
 use Rattle.omci_top.specs.declared.status.Status.{Status}
-use Rattle.omci_top.specs.declared.status.Status.TheVariants.{Done, Usage, Input, ReadFault, WriteFault, TooLong, NoMemory}
+use Rattle.omci_top.specs.declared.status.Status.TheVariants.{Done, Usage, Input, ReadFault, WriteFault, DiskFault, TooLong, NoMemory, TooLarge}
+use Rattle.link_replay.specs.Seen.{State}
 use Rattle.link_replay.specs.Writing.{WritesFront}
-use Rattle.omci_top.specs.Answers.{Ran, Told, Ends, AnswersReplay}
+use Rattle.omci_top.specs.Answers.{Ran, Told, Ends, AnswersReplay, world_after}
 
 pub answer_to_script : (input : List ℕ) (script : Script) → reading input ≡ Ok script → answer_to input ≡ trace script
 unfolding answer_to
@@ -27,26 +28,30 @@ unfolding answer_to
 answer_to_fault input place reason e = ap answer_of e
 
 -- a script was run
-pub Ends-ran : (s : Status) (script : Script) (input : List ℕ) (before now : Option (List ℕ)) (faults_before faults_now : ℕ) → Writes script input → answer_to input ≡ trace script → Ran s (trace script) before now faults_before faults_now → Ends s input before now faults_before faults_now
-Ends-ran Done script input before now fb fn spelled is ran = ((script, spelled, ran.0), ran.1)
-Ends-ran Usage script input before now fb fn spelled is ran = elim ran [ ]
-Ends-ran (Input place reason) script input before now fb fn spelled is ran = elim ran [ ]
-Ends-ran ReadFault script input before now fb fn spelled is ran = elim ran [ ]
-Ends-ran WriteFault script input before now fb fn spelled is ran = (subst (λ text. WritesFront text before now) (sym is) ran.0, ran.1)
-Ends-ran TooLong script input before now fb fn spelled is ran = elim ran [ ]
-Ends-ran NoMemory script input before now fb fn spelled is ran = (subst (λ text. WritesFront text before now) (sym is) ran.0, ran.1)
+pub Ends-ran : (s : Status) (world : Option State) (script : Script) (input : List ℕ) (before now : Option (List ℕ)) (faults_before faults_now : ℕ) → Writes script input → answer_to input ≡ trace script → (s ≡ Done → world ≡ Some (world_after script)) → Ran s (trace script) before now faults_before faults_now → Ends s world input before now faults_before faults_now
+Ends-ran Done world script input before now fb fn spelled is ended ran = ((script, spelled, ran.0, ended refl), ran.1)
+Ends-ran Usage world script input before now fb fn spelled is ended ran = elim ran [ ]
+Ends-ran (Input place reason) world script input before now fb fn spelled is ended ran = elim ran [ ]
+Ends-ran ReadFault world script input before now fb fn spelled is ended ran = elim ran [ ]
+Ends-ran WriteFault world script input before now fb fn spelled is ended ran = (subst (λ text. WritesFront text before now) (sym is) ran.0, ran.1)
+Ends-ran DiskFault world script input before now fb fn spelled is ended ran = elim ran [ ]
+Ends-ran TooLong world script input before now fb fn spelled is ended ran = elim ran [ ]
+Ends-ran NoMemory world script input before now fb fn spelled is ended ran = (subst (λ text. WritesFront text before now) (sym is) ran.0, ran.1)
+Ends-ran TooLarge world script input before now fb fn spelled is ended ran = elim ran [ ]
 
 -- a fault was told
-pub Ends-told : (s : Status) (place reason : ℕ) (input : List ℕ) (before now : Option (List ℕ)) (faults_before faults_now : ℕ) → fault input ≡ Some (place, reason) → answer_to input ≡ input_text place reason → Told s place reason before now faults_before faults_now → Ends s input before now faults_before faults_now
-Ends-told Done place reason input before now fb fn faulty is told = elim told [ ]
-Ends-told Usage place reason input before now fb fn faulty is told = elim told [ ]
-Ends-told (Input line why) place reason input before now fb fn faulty is told =
+pub Ends-told : (s : Status) (world : Option State) (place reason : ℕ) (input : List ℕ) (before now : Option (List ℕ)) (faults_before faults_now : ℕ) → fault input ≡ Some (place, reason) → answer_to input ≡ input_text place reason → Told s place reason before now faults_before faults_now → Ends s world input before now faults_before faults_now
+Ends-told Done world place reason input before now fb fn faulty is told = elim told [ ]
+Ends-told Usage world place reason input before now fb fn faulty is told = elim told [ ]
+Ends-told (Input line why) world place reason input before now fb fn faulty is told =
     let same = ap (λ l. input_text l why) told.0 ∙ ap (input_text place) told.1 in
     (faulty ∙ ap (λ l. Some (l, reason)) (sym told.0) ∙ ap (λ r. Some (line, r)) (sym told.1), subst (λ text. Appends before now text) (sym same) told.2, told.3)
-Ends-told ReadFault place reason input before now fb fn faulty is told = elim told [ ]
-Ends-told WriteFault place reason input before now fb fn faulty is told = (subst (λ text. WritesFront text before now) (sym is) told.0, told.1)
-Ends-told TooLong place reason input before now fb fn faulty is told = elim told [ ]
-Ends-told NoMemory place reason input before now fb fn faulty is told = (subst (λ text. WritesFront text before now) (sym is) told.0, told.1)
+Ends-told ReadFault world place reason input before now fb fn faulty is told = elim told [ ]
+Ends-told WriteFault world place reason input before now fb fn faulty is told = (subst (λ text. WritesFront text before now) (sym is) told.0, told.1)
+Ends-told DiskFault world place reason input before now fb fn faulty is told = elim told [ ]
+Ends-told TooLong world place reason input before now fb fn faulty is told = elim told [ ]
+Ends-told NoMemory world place reason input before now fb fn faulty is told = (subst (λ text. WritesFront text before now) (sym is) told.0, told.1)
+Ends-told TooLarge world place reason input before now fb fn faulty is told = elim told [ ]
 
 -- the law that no command acts twice, and that each reply taken is its command's own
 abbrev pub OnceLaw : Type 0
@@ -55,26 +60,32 @@ OnceLaw = (h : Header) (actions : List Action) → IsNumber h.low → IsNumber h
 abbrev pub AnsweredLaw : Type 0
 AnsweredLaw = (h : Header) (actions : List Action) → IsNumber h.low → IsNumber h.high → All IsAction actions → Answered (history_of h actions)
 
+-- the law that each copy is what its upload put by
+abbrev pub SyncedLaw : Type 0
+SyncedLaw = (h : Header) (actions : List Action) → IsNumber h.low → IsNumber h.high → All IsAction actions → SyncedRight (history_of h actions)
+
 -- the numbers of a script's header and its lines are in their ranges, so the laws of the machine hold of its history
-acts_once : OnceLaw → AnsweredLaw → (script : Script) (input : List ℕ) → Writes script input → Once (history_of script.header script.actions) × Answered (history_of script.header script.actions)
-acts_once once answered script input spelled =
+laws_hold : OnceLaw → AnsweredLaw → SyncedLaw → (script : Script) (input : List ℕ) → Writes script input → Once (history_of script.header script.actions) × Answered (history_of script.header script.actions) × SyncedRight (history_of script.header script.actions)
+laws_hold once answered synced script input spelled =
     let ranges = reading_range input script (reading-Writes script input spelled) in
     let header = ranges.header in
     let low : IsNumber script.header.low = record { some = header.low_some; most = header.low_most } in
     let high : IsNumber script.header.high = record { some = header.high_some; most = header.high_most } in
-    (once script.header script.actions low high ranges.actions, answered script.header script.actions low high ranges.actions)
+    (once script.header script.actions low high ranges.actions, answered script.header script.actions low high ranges.actions, synced script.header script.actions low high ranges.actions)
 
 -- so the answer says of source and sink what it has to say
-pub AnswersReplay-ends : OnceLaw → AnsweredLaw → (s : Status) (input : List ℕ) (left_before left_now written_before written_now : Option (List ℕ)) (read_before read_now write_before write_now : ℕ) → ReadsWhole 16777216 left_before left_now input → read_now ≡ read_before → Ends s input written_before written_now write_before write_now → AnswersReplay s left_before left_now written_before written_now read_before read_now write_before write_now
-AnswersReplay-ends once answered Done input lb ln wb wn rb rn kb kn read same ends =
-    let acts = acts_once once answered ends.0.0 input ends.0.1 in
-    (record { input = input; script = ends.0.0; read = read; spelled = ends.0.1; traced = ends.0.2; once = acts.0; answered = acts.1 }, same, ends.1)
-AnswersReplay-ends once answered Usage input lb ln wb wn rb rn kb kn read same ends = elim ends [ ]
-AnswersReplay-ends once answered (Input place reason) input lb ln wb wn rb rn kb kn read same ends =
+pub AnswersReplay-ends : OnceLaw → AnsweredLaw → SyncedLaw → (s : Status) (world : Option State) (input : List ℕ) (left_before left_now written_before written_now : Option (List ℕ)) (read_before read_now write_before write_now : ℕ) → ReadsWhole 16777216 left_before left_now input → read_now ≡ read_before → Ends s world input written_before written_now write_before write_now → AnswersReplay s world left_before left_now written_before written_now read_before read_now write_before write_now
+AnswersReplay-ends once answered synced Done world input lb ln wb wn rb rn kb kn read same ends =
+    let laws = laws_hold once answered synced ends.0.0 input ends.0.1 in
+    (record { input = input; script = ends.0.0; read = read; spelled = ends.0.1; traced = ends.0.2; ended = ends.0.3; once = laws.0; answered = laws.1; synced = laws.2 }, same, ends.1)
+AnswersReplay-ends once answered synced Usage world input lb ln wb wn rb rn kb kn read same ends = elim ends [ ]
+AnswersReplay-ends once answered synced (Input place reason) world input lb ln wb wn rb rn kb kn read same ends =
     (record { input = input; read = read; faulty = ends.0; told = ends.1 }, same, ends.2)
-AnswersReplay-ends once answered ReadFault input lb ln wb wn rb rn kb kn read same ends = elim ends [ ]
-AnswersReplay-ends once answered WriteFault input lb ln wb wn rb rn kb kn read same ends =
+AnswersReplay-ends once answered synced ReadFault world input lb ln wb wn rb rn kb kn read same ends = elim ends [ ]
+AnswersReplay-ends once answered synced WriteFault world input lb ln wb wn rb rn kb kn read same ends =
     (record { input = input; read = read; front = ends.0 }, same, ends.1)
-AnswersReplay-ends once answered TooLong input lb ln wb wn rb rn kb kn read same ends = elim ends [ ]
-AnswersReplay-ends once answered NoMemory input lb ln wb wn rb rn kb kn read same ends =
+AnswersReplay-ends once answered synced DiskFault world input lb ln wb wn rb rn kb kn read same ends = elim ends [ ]
+AnswersReplay-ends once answered synced TooLong world input lb ln wb wn rb rn kb kn read same ends = elim ends [ ]
+AnswersReplay-ends once answered synced NoMemory world input lb ln wb wn rb rn kb kn read same ends =
     (inr (record { input = input; read = read; front = ends.0 }), same, ends.1)
+AnswersReplay-ends once answered synced TooLarge world input lb ln wb wn rb rn kb kn read same ends = elim ends [ ]

@@ -10,7 +10,8 @@ use Rattle.script_laws.proofs.Scripts.{reading-Writes}
 use Rattle.script_laws.proofs.FaultLaws.{no_fault_from_reading}
 use Rattle.omci_top.specs.Streams.{ReadsWhole, ReadsPast}
 use Rattle.omci_top.specs.declared.status.Status.{Status}
-use Rattle.omci_top.specs.declared.status.Status.TheVariants.{Done, Usage, Input, ReadFault, WriteFault, TooLong, NoMemory}
+use Rattle.omci_top.specs.declared.status.Status.TheVariants.{Done, Usage, Input, ReadFault, WriteFault, DiskFault, TooLong, NoMemory, TooLarge}
+use Rattle.link_replay.specs.Seen.{State}
 use Rattle.omci_top.specs.Answers.{AnswersReplay}
 
 -- what a source that tells its bytes gave whole is those bytes
@@ -34,8 +35,8 @@ same_fault line why place reason e =
     let same : ◌≡◌ {A = ℕ × ℕ} (line, why) (place, reason) = cc in
     ap (λ at. Input at.0 at.1) same
 
-module _ (lb ln wb wn : Option (List ℕ)) (rb rn kb kn : ℕ) where
-  pub runs_of : (s : Status) → AnswersReplay s lb ln wb wn rb rn kb kn → (script : Script) (bytes : List ℕ) → lb ≡ Some bytes → length bytes ≤ 16777216 → Writes script bytes → ¬ Rose rb rn → ¬ Rose kb kn → s ≢ NoMemory → s ≡ Done
+module _ (w : Option State) (lb ln wb wn : Option (List ℕ)) (rb rn kb kn : ℕ) where
+  pub runs_of : (s : Status) → AnswersReplay s w lb ln wb wn rb rn kb kn → (script : Script) (bytes : List ℕ) → lb ≡ Some bytes → length bytes ≤ 16777216 → Writes script bytes → ¬ Rose rb rn → ¬ Rose kb kn → s ≢ NoMemory → s ≡ Done
   runs_of Done a script bytes told few spelled calm_source calm_sink some = refl
   runs_of Usage a script bytes told few spelled calm_source calm_sink some = elim a [ ]
   runs_of (Input place reason) a script bytes told few spelled calm_source calm_sink some =
@@ -44,10 +45,12 @@ module _ (lb ln wb wn : Option (List ℕ)) (rb rn kb kn : ℕ) where
       absurd (cc)
   runs_of ReadFault a script bytes told few spelled calm_source calm_sink some = absurd (calm_source a.0)
   runs_of WriteFault a script bytes told few spelled calm_source calm_sink some = absurd (calm_sink a.2)
+  runs_of DiskFault a script bytes told few spelled calm_source calm_sink some = elim a [ ]
   runs_of TooLong a script bytes told few spelled calm_source calm_sink some = absurd (omega (arith, past_long bytes lb ln told a.0))
   runs_of NoMemory a script bytes told few spelled calm_source calm_sink some = absurd (some refl)
+  runs_of TooLarge a script bytes told few spelled calm_source calm_sink some = elim a [ ]
 
-  pub refuses_of : (s : Status) → AnswersReplay s lb ln wb wn rb rn kb kn → (place reason : ℕ) (bytes : List ℕ) → lb ≡ Some bytes → length bytes ≤ 16777216 → fault bytes ≡ Some (place, reason) → ¬ Rose rb rn → ¬ Rose kb kn → s ≢ NoMemory → s ≡ Input place reason
+  pub refuses_of : (s : Status) → AnswersReplay s w lb ln wb wn rb rn kb kn → (place reason : ℕ) (bytes : List ℕ) → lb ≡ Some bytes → length bytes ≤ 16777216 → fault bytes ≡ Some (place, reason) → ¬ Rose rb rn → ¬ Rose kb kn → s ≢ NoMemory → s ≡ Input place reason
   refuses_of Done a place reason bytes told few faulty calm_source calm_sink some =
       let none : fault bytes ≡ None = no_fault a.0.script bytes (subst (λ b. Writes a.0.script b) (whole_is bytes a.0.input lb ln told a.0.read) a.0.spelled) in
       absurd (cc)
@@ -58,5 +61,7 @@ module _ (lb ln wb wn : Option (List ℕ)) (rb rn kb kn : ℕ) where
       same_fault line why place reason same
   refuses_of ReadFault a place reason bytes told few faulty calm_source calm_sink some = absurd (calm_source a.0)
   refuses_of WriteFault a place reason bytes told few faulty calm_source calm_sink some = absurd (calm_sink a.2)
+  refuses_of DiskFault a place reason bytes told few faulty calm_source calm_sink some = elim a [ ]
   refuses_of TooLong a place reason bytes told few faulty calm_source calm_sink some = absurd (omega (arith, past_long bytes lb ln told a.0))
   refuses_of NoMemory a place reason bytes told few faulty calm_source calm_sink some = absurd (some refl)
+  refuses_of TooLarge a place reason bytes told few faulty calm_source calm_sink some = elim a [ ]

@@ -1,18 +1,20 @@
 -- What each answer of the top call says of the source and of the sink.
-use Rattle.std.specs.Prelude.{ℕ, ◌≡◌, ◌⊎◌, List, [], ◌∷◌, codes, Option, Some}
+use Rattle.std.specs.Prelude.{ℕ, ◌≡◌, ◌⊎◌, List, [], Option, Some}
 use Rattle.std.specs.Io.KnownBytes.{Appends}
 use Rattle.omci_core.specs.Causes.{Rose}
 use Rattle.script_spec.specs.Script.{Script}
 use Rattle.script_spec.specs.Grammar.{Writes}
 use Rattle.script_spec.specs.Fault.{fault}
+use Rattle.world_spec.specs.Nodes.{first_nodes, nodes_after}
 use Rattle.world_spec.specs.Trace.{trace}
-use Rattle.history_spec.specs.History.{Once, Answered}
+use Rattle.history_spec.specs.History.{Once, Answered, SyncedRight}
 use Rattle.world_spec.specs.History.{history_of}
 use Rattle.omci_top.specs.Streams.{ReadsWhole, ReadsPast}
+use Rattle.link_replay.specs.Seen.{State, sound, seen_of}
 use Rattle.link_replay.specs.Writing.{WritesFront}
 use Rattle.omci_top.specs.Texts.{input_text, answer_to}
 use Rattle.omci_top.specs.declared.status.Status.{Status}
-use Rattle.omci_top.specs.declared.status.Status.TheVariants.{Done, Usage, Input, ReadFault, WriteFault, TooLong, NoMemory}
+use Rattle.omci_top.specs.declared.status.Status.TheVariants.{Done, Usage, Input, ReadFault, WriteFault, DiskFault, TooLong, NoMemory, TooLarge}
 
 -- the exit status of the program
 abbrev pub status_number : Status → ℕ
@@ -21,8 +23,14 @@ status_number Usage = 1
 status_number (Input place reason) = 2
 status_number ReadFault = 3
 status_number WriteFault = 4
+status_number DiskFault = 5
 status_number TooLong = 8
 status_number NoMemory = 9
+status_number TooLarge = 10
+
+-- the world that ran all events of a script: it stands for the machine's nodes after them
+abbrev pub world_after : Script → State
+world_after script = sound (seen_of (nodes_after script.actions (first_nodes script.header)))
 
 -- What writing a whole text comes to, by the answer of the run: all of it, or a front of it.
 abbrev pub Ran : Status → List ℕ → Option (List ℕ) → Option (List ℕ) → ℕ → ℕ → Type 0
@@ -42,27 +50,30 @@ Told WriteFault place reason before now faults_before faults_now =
 Told _ place reason before now faults_before faults_now = ⊥
 
 -- What a run on an input comes to at the sink, by its answer. No other answer comes.
-abbrev pub Ends : Status → List ℕ → Option (List ℕ) → Option (List ℕ) → ℕ → ℕ → Type 0
-Ends Done input before now faults_before faults_now =
-    ((script : Script) × Writes script input × Appends before now (trace script)) × (faults_now ≡ faults_before)
-Ends (Input place reason) input before now faults_before faults_now =
+abbrev pub Ends : Status → Option State → List ℕ → Option (List ℕ) → Option (List ℕ) → ℕ → ℕ → Type 0
+Ends Done world input before now faults_before faults_now =
+    ((script : Script) × Writes script input × Appends before now (trace script) × (world ≡ Some (world_after script))) × (faults_now ≡ faults_before)
+Ends (Input place reason) world input before now faults_before faults_now =
     (fault input ≡ Some (place, reason)) × Appends before now (input_text place reason) × (faults_now ≡ faults_before)
-Ends NoMemory input before now faults_before faults_now =
+Ends NoMemory world input before now faults_before faults_now =
     WritesFront (answer_to input) before now × (faults_now ≡ faults_before)
-Ends WriteFault input before now faults_before faults_now =
+Ends WriteFault world input before now faults_before faults_now =
     WritesFront (answer_to input) before now × Rose faults_before faults_now
-Ends _ input before now faults_before faults_now = ⊥
+Ends _ world input before now faults_before faults_now = ⊥
 
--- The source was read to its end, its bytes spell a script, and the script's trace was written. In this script's history no
--- command is carried out twice, and each reply taken is its command's own.
-pub record Replays (left_before left_now written_before written_now : Option (List ℕ)) : Type 0 where
+-- The source was read to its end, its bytes spell a script, the script's trace was written, and the world ran all its events. In
+-- this script's history no command is carried out twice, each reply taken is its command's own, and the copy of each
+-- resynchronisation is what its upload put by.
+pub record Replays (world : Option State) (left_before left_now written_before written_now : Option (List ℕ)) : Type 0 where
   pub input : List ℕ
   pub script : Script
   pub read : ReadsWhole 16777216 left_before left_now input
   pub spelled : Writes script input
   pub traced : Appends written_before written_now (trace script)
+  pub ended : world ≡ Some (world_after script)
   pub once : Once (history_of script.header script.actions)
   pub answered : Answered (history_of script.header script.actions)
+  pub synced : SyncedRight (history_of script.header script.actions)
 
 -- The source was read to its end, its bytes have this first fault, and the one line that says so was written.
 pub record Refuses (place reason : ℕ) (left_before left_now written_before written_now : Option (List ℕ)) : Type 0 where
@@ -78,18 +89,20 @@ pub record BreaksOffAt (left_before left_now written_before written_now : Option
   pub front : WritesFront (answer_to input) written_before written_now
 
 -- What a replay comes to, by its answer. A command line that is a replay's isn't answered by Usage.
-abbrev pub AnswersReplay : Status → (left_before left_now written_before written_now : Option (List ℕ)) (read_before read_now write_before write_now : ℕ) → Type 0
-AnswersReplay Done left_before left_now written_before written_now read_before read_now write_before write_now =
-    Replays left_before left_now written_before written_now × (read_now ≡ read_before) × (write_now ≡ write_before)
-AnswersReplay Usage left_before left_now written_before written_now read_before read_now write_before write_now = ⊥
-AnswersReplay (Input place reason) left_before left_now written_before written_now read_before read_now write_before write_now =
+abbrev pub AnswersReplay : Status → Option State → (left_before left_now written_before written_now : Option (List ℕ)) (read_before read_now write_before write_now : ℕ) → Type 0
+AnswersReplay Done world left_before left_now written_before written_now read_before read_now write_before write_now =
+    Replays world left_before left_now written_before written_now × (read_now ≡ read_before) × (write_now ≡ write_before)
+AnswersReplay Usage world left_before left_now written_before written_now read_before read_now write_before write_now = ⊥
+AnswersReplay (Input place reason) world left_before left_now written_before written_now read_before read_now write_before write_now =
     Refuses place reason left_before left_now written_before written_now × (read_now ≡ read_before) × (write_now ≡ write_before)
-AnswersReplay ReadFault left_before left_now written_before written_now read_before read_now write_before write_now =
+AnswersReplay ReadFault world left_before left_now written_before written_now read_before read_now write_before write_now =
     Rose read_before read_now × (write_now ≡ write_before)
-AnswersReplay WriteFault left_before left_now written_before written_now read_before read_now write_before write_now =
+AnswersReplay WriteFault world left_before left_now written_before written_now read_before read_now write_before write_now =
     BreaksOffAt left_before left_now written_before written_now × (read_now ≡ read_before) × Rose write_before write_now
-AnswersReplay TooLong left_before left_now written_before written_now read_before read_now write_before write_now =
+AnswersReplay DiskFault world left_before left_now written_before written_now read_before read_now write_before write_now = ⊥
+AnswersReplay TooLong world left_before left_now written_before written_now read_before read_now write_before write_now =
     ReadsPast 16777216 left_before left_now × (read_now ≡ read_before) × (write_now ≡ write_before)
-AnswersReplay NoMemory left_before left_now written_before written_now read_before read_now write_before write_now =
+AnswersReplay NoMemory world left_before left_now written_before written_now read_before read_now write_before write_now =
     (Appends written_before written_now [] ⊎ BreaksOffAt left_before left_now written_before written_now)
     × (read_now ≡ read_before) × (write_now ≡ write_before)
+AnswersReplay TooLarge world left_before left_now written_before written_now read_before read_now write_before write_now = ⊥

@@ -2,3 +2,4 @@ pub mod Commands
 pub mod Streams
 pub mod Texts
 pub mod Answers
+pub mod Flashes

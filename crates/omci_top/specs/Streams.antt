@@ -1,6 +1,6 @@
 -- What it is to read a source to its end, and to write a whole piece.
-use Rattle.std.specs.Prelude.{◌≡◌, ℕ, ◌<◌, ◌≤◌, List, ◌++◌, length, Option}
-use Rattle.std.specs.Io.KnownBytes.{Appends, Consumes, IsAtEnd}
+use Rattle.std.specs.Prelude.{◌≡◌, ℕ, ◌<◌, ◌≤◌, List, length, Option}
+use Rattle.std.specs.Io.KnownBytes.{Consumes, IsAtEnd}
 use Rattle.omci_core.specs.Causes.{Rose}
 use Rattle.omci_top.specs.declared.streams.InputFault.{InputFault}
 use Rattle.omci_top.specs.declared.streams.InputFault.TheVariants.{Read, TooLong, NoMemory}

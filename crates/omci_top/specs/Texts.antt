@@ -1,5 +1,5 @@
 -- What is written of an input: the trace of the script that it spells, or one line that says why there is none.
-use Rattle.std.specs.Prelude.{ℕ, ◌≡◌, List, ◌++◌, codes, decimal, Result, Ok, Err}
+use Rattle.std.specs.Prelude.{ℕ, List, ◌++◌, codes, decimal, Result, Ok, Err}
 use Rattle.script_spec.specs.Script.{Script}
 use Rattle.script_spec.specs.Reading.{reading}
 use Rattle.world_spec.specs.Trace.{trace}

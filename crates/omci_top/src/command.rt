@@ -1,6 +1,6 @@
 //! The command lines of the program.
 
-ghost use Rattle.std.specs.Prelude.{◌≡◌, IsTrue, ◌↔◌};
+ghost use Rattle.std.specs.Prelude.{◌≡◌, IsTrue, ◌↔◌, Some};
 ghost use Rattle.omci_top.specs.Commands.{command_of, replay_words};
 
 use omci_core::Words;
@@ -10,6 +10,9 @@ use omci_core::Words;
 pub enum Command {
     /// `replay`: runs a script over both ends and writes its trace.
     Replay,
+    /// `flash FILE`: makes the file a disk of two image slots, with an image in the first. The
+    /// file's name is the second word.
+    Flash,
 }
 
 /// Whether the words are those of a replay.
@@ -19,14 +22,23 @@ fn is_replay(words: &Words) -> bool
     words.len() == 1 && words.word(0) == b"replay".as_slice()
 }
 
+/// Whether the words are those of a flash.
+fn is_flash(words: &Words) -> bool
+    ensures value { IsTrue result ↔ (command_of words.now ≡ Some Command.Flash) }
+{
+    words.len() == 2 && words.word(0) == b"flash".as_slice() && !words.word(1).is_empty()
+}
+
 /// The command of these words. `None` exactly where they are no command line.
 #[tactic(auto, using(crate::proofs::Words::replay_is, crate::proofs::Words::no_other))]
 pub fn command_of(words: &Words) -> Option<Command>
     ensures value { result ≡ command_of words.now }
 {
     if is_replay(words) {
-        Some(Command::Replay)
-    } else {
-        None
+        return Some(Command::Replay);
     }
+    if is_flash(words) {
+        return Some(Command::Flash);
+    }
+    None
 }

@@ -1,4 +1,4 @@
-//! The top call of the program: what each command line does with the source and the sink.
+//! The top call of the program: what each command line does with the source, the sink and the disk.
 #![tactic(auto)]
 
 ghost use Rattle.std.specs.Prelude.{◌≡◌, ◌≢◌, ◌↔◌, ◌<◌, ◌≤◌, ℕ, List, Some, None, length};
@@ -8,58 +8,133 @@ ghost use Rattle.script_spec.specs.Grammar.{Writes};
 ghost use Rattle.script_spec.specs.Fault.{fault};
 ghost use Rattle.omci_top.specs.Commands.{command_of};
 ghost use Rattle.omci_top.specs.Answers.{AnswersReplay};
+ghost use Rattle.omci_top.specs.Flashes.{AnswersFlash, IsTooLarge};
 
 mod command;
+mod flash;
 mod replay;
 mod status;
 mod streams;
 
 pub use command::{Command, command_of};
+pub use flash::FLASH_ROOM;
+pub use link_replay::World;
 use omci_core::{Sink, Source, Words};
+use replay::Replayed;
+use slot_disk::Disk;
 pub use status::Status;
 use std::alloc::Global;
 
-/// Does what the words ask for. The one command line is `replay`: a script is read whole from the source and run over both
-/// ends, and its trace is written to the sink.
-pub fn omci<S: Source, K: Sink>(
+/// What a call came to.
+#[derive(Drop)]
+pub struct End<D: Disk> {
+    /// How it ended.
+    pub status: Status,
+    /// The disk that it was given.
+    pub disk: D,
+    /// The world that ran the events, exactly where a replay is done.
+    pub world: Option<World>,
+}
+
+/// Does what the words ask for. With `replay` a script is read whole from the source and run over
+/// both ends, and its trace is written to the sink. With `flash FILE` an image is read whole from the
+/// source, and the disk of that name becomes one of two slots with the image in slot 0.
+pub fn omci<S: Source, K: Sink, D: Disk>(
     alloc: Global,
     words: &Words,
     source: &mut S,
     sink: &mut K,
-) -> Status
-    // What each command reads and writes, by its answer; words that are no command line touch nothing.
-    ensures replay { command_of words.now ≡ Some Command.Replay → AnswersReplay result
+    disk: D,
+) -> End<D>
+    // What each command reads and writes, by its answer; words that are no command line touch
+    // nothing.
+    ensures replay { command_of words.now ≡ Some Command.Replay
+        → AnswersReplay result.status result.world
         (S.left source.old) (S.left source.new) (K.written sink.old) (K.written sink.new)
         (S.faults source.old) (S.faults source.new) (K.faults sink.old) (K.faults sink.new) }
-    ensures no_command { command_of words.now ≡ None → (source.new ≡ source.old) × (sink.new ≡ sink.old) }
-    ensures usage { (result ≡ Status.Usage) ↔ (command_of words.now ≡ None) }
+    ensures flash { command_of words.now ≡ Some Command.Flash
+        → AnswersFlash D.seen D.may_leave D.rig D.faults result.status disk result.disk
+        (S.left source.old) (S.left source.new) (S.faults source.old) (S.faults source.new) }
+    ensures no_command { command_of words.now ≡ None
+        → (source.new ≡ source.old) × (sink.new ≡ sink.old) × (result.disk ≡ disk) }
+    ensures usage { (result.status ≡ Status.Usage) ↔ (command_of words.now ≡ None) }
 
-    // A sink is untouched where there is nothing to write.
-    ensures read_fault_sink { result ≡ Status.ReadFault → sink.new ≡ sink.old }
-    ensures too_long_sink { result ≡ Status.TooLong → sink.new ≡ sink.old }
+    // A replay that is done gives its world; nothing else gives one.
+    ensures no_world { result.status ≢ Status.Done → result.world ≡ None }
+    ensures flash_world { command_of words.now ≢ Some Command.Replay → result.world ≡ None }
+
+    // A sink is untouched where there is nothing to write, and the disk with a replay.
+    ensures read_fault_sink { result.status ≡ Status.ReadFault → sink.new ≡ sink.old }
+    ensures too_long_sink { result.status ≡ Status.TooLong → sink.new ≡ sink.old }
+    ensures flash_sink { command_of words.now ≡ Some Command.Flash → sink.new ≡ sink.old }
+    ensures replay_disk { command_of words.now ≡ Some Command.Replay → result.disk ≡ disk }
 
     // A fault has its cause, and where none is answered there was none.
-    ensures read_fault { result ≡ Status.ReadFault → Rose (S.faults source.old) (S.faults source.new) }
-    ensures read_kept { result ≢ Status.ReadFault → S.faults source.new ≡ S.faults source.old }
-    ensures write_fault { result ≡ Status.WriteFault → Rose (K.faults sink.old) (K.faults sink.new) }
-    ensures write_kept { result ≢ Status.WriteFault → K.faults sink.new ≡ K.faults sink.old }
+    ensures read_fault { result.status ≡ Status.ReadFault
+        → Rose (S.faults source.old) (S.faults source.new) }
+    ensures read_kept { result.status ≢ Status.ReadFault
+        → S.faults source.new ≡ S.faults source.old }
+    ensures write_fault { result.status ≡ Status.WriteFault
+        → Rose (K.faults sink.old) (K.faults sink.new) }
+    ensures write_kept { result.status ≢ Status.WriteFault
+        → K.faults sink.new ≡ K.faults sink.old }
+    ensures disk_fault { result.status ≡ Status.DiskFault
+        → Rose (D.faults disk) (D.faults result.disk) }
+    ensures disk_kept { result.status ≢ Status.DiskFault → D.faults result.disk ≡ D.faults disk }
 
-    // Where no count rises and memory suffices, a script ends Done, a fault is told, and more than 16,777,216 bytes are
-    // too long.
-    ensures replay_runs { (script : Script) (bytes : List ℕ) → command_of words.now ≡ Some Command.Replay
-        → S.left source.old ≡ Some bytes → length bytes ≤ 16777216 → Writes script bytes
-        → ¬ Rose (S.faults source.old) (S.faults source.new) → ¬ Rose (K.faults sink.old) (K.faults sink.new)
-        → result ≢ Status.NoMemory → result ≡ Status.Done }
-    ensures replay_refuses { (place reason : ℕ) (bytes : List ℕ) → command_of words.now ≡ Some Command.Replay
-        → S.left source.old ≡ Some bytes → length bytes ≤ 16777216 → fault bytes ≡ Some (place, reason)
-        → ¬ Rose (S.faults source.old) (S.faults source.new) → ¬ Rose (K.faults sink.old) (K.faults sink.new)
-        → result ≢ Status.NoMemory → result ≡ Status.Input place reason }
-    ensures replay_stops { (bytes : List ℕ) → command_of words.now ≡ Some Command.Replay → S.left source.old ≡ Some bytes
-        → 16777216 < length bytes → ¬ Rose (S.faults source.old) (S.faults source.new)
-        → result ≢ Status.NoMemory → result ≡ Status.TooLong }
+    // Where no count rises and memory suffices, a script ends Done, a fault is told, and more than
+    // 16,777,216 bytes are too long.
+    ensures replay_runs { (script : Script) (bytes : List ℕ)
+        → command_of words.now ≡ Some Command.Replay → S.left source.old ≡ Some bytes
+        → length bytes ≤ 16777216 → Writes script bytes
+        → ¬ Rose (S.faults source.old) (S.faults source.new)
+        → ¬ Rose (K.faults sink.old) (K.faults sink.new)
+        → result.status ≢ Status.NoMemory → result.status ≡ Status.Done }
+    ensures replay_refuses { (place reason : ℕ) (bytes : List ℕ)
+        → command_of words.now ≡ Some Command.Replay → S.left source.old ≡ Some bytes
+        → length bytes ≤ 16777216 → fault bytes ≡ Some (place, reason)
+        → ¬ Rose (S.faults source.old) (S.faults source.new)
+        → ¬ Rose (K.faults sink.old) (K.faults sink.new)
+        → result.status ≢ Status.NoMemory → result.status ≡ Status.Input place reason }
+    ensures replay_stops { (bytes : List ℕ)
+        → command_of words.now ≡ Some Command.Replay → S.left source.old ≡ Some bytes
+        → 16777216 < length bytes
+        → ¬ Rose (S.faults source.old) (S.faults source.new)
+        → result.status ≢ Status.NoMemory → result.status ≡ Status.TooLong }
+
+    // Likewise an image of 1 to 1,048,576 bytes is flashed, another one is too large, and more than
+    // 16,777,216 bytes are too long.
+    ensures flash_runs { (image : List ℕ)
+        → command_of words.now ≡ Some Command.Flash → S.left source.old ≡ Some image
+        → 1 ≤ length image → length image ≤ FLASH_ROOM
+        → ¬ Rose (S.faults source.old) (S.faults source.new)
+        → ¬ Rose (D.faults disk) (D.faults result.disk)
+        → result.status ≢ Status.NoMemory → result.status ≡ Status.Done }
+    ensures flash_refuses { (image : List ℕ)
+        → command_of words.now ≡ Some Command.Flash → S.left source.old ≡ Some image
+        → length image ≤ 16777216 → IsTooLarge image
+        → ¬ Rose (S.faults source.old) (S.faults source.new)
+        → result.status ≢ Status.NoMemory → result.status ≡ Status.TooLarge }
+    ensures flash_stops { (bytes : List ℕ)
+        → command_of words.now ≡ Some Command.Flash → S.left source.old ≡ Some bytes
+        → 16777216 < length bytes
+        → ¬ Rose (S.faults source.old) (S.faults source.new)
+        → result.status ≢ Status.NoMemory → result.status ≡ Status.TooLong }
 {
     match command_of(words) {
-        Some(Command::Replay) => replay::replay(alloc, source, sink),
-        None => Status::Usage,
+        Some(Command::Replay) => {
+            let Replayed { status, world } = replay::replay(alloc, source, sink);
+            End {
+                status,
+                disk,
+                world,
+            }
+        }
+        Some(Command::Flash) => flash::flash(alloc, words.word(1), source, disk),
+        None => End {
+            status: Status::Usage,
+            disk,
+            world: None,
+        },
     }
 }

@@ -1,11 +1,11 @@
 //! The command `replay`: a script is read whole and run, and its trace is written.
 
-ghost use Rattle.std.specs.Prelude.{◌≡◌, ◌++◌, OnOk, OnErr, IfErr};
+ghost use Rattle.std.specs.Prelude.{◌≡◌, ◌≢◌, ◌++◌, Some, None, OnOk, OnErr, IfOk, IfErr};
 ghost use Rattle.std.specs.Io.KnownBytes.{Appends};
 ghost use Rattle.world_spec.specs.Trace.{trace};
 ghost use Rattle.link_replay.specs.Writing.{WritesFront, EndsRun};
 ghost use Rattle.omci_top.specs.Texts.{input_text};
-ghost use Rattle.omci_top.specs.Answers.{Ran, Told, Ends, AnswersReplay};
+ghost use Rattle.omci_top.specs.Answers.{Ran, Told, Ends, AnswersReplay, world_after};
 
 use crate::status::Status;
 use crate::streams::{InputFault, read_whole};
@@ -13,8 +13,27 @@ use link_replay::{RunFault, World, write_all};
 use omci_contents::{push_bytes, push_number};
 use omci_core::{NoMemory, Sink, Source};
 use replay_script::{Script, ScriptRefusal, read};
+use resync_laws::copies_are_snapshots;
 use std::alloc::Global;
 use world_laws::commands_act_once;
+
+/// How a replay ended: the world that ran the events of its script comes with `Done` alone.
+#[derive(Drop)]
+pub struct Replayed {
+    pub status: Status,
+    pub world: Option<World>,
+}
+
+/// A replay that ended with no world.
+fn without_world(status: Status) -> Replayed
+    ensures status { result.status ≡ status }
+    ensures no_world { result.world ≡ None }
+{
+    Replayed {
+        status,
+        world: None,
+    }
+}
 
 /// Appends the one line of an input that is refused.
 #[tactic(auto, unfolding(crate::specs::Texts::input_text))]
@@ -30,9 +49,11 @@ fn push_input(out: &mut Vec<u8>, place: u64, reason: u8) -> Result<(), NoMemory>
 
 /// Writes the one line of an input that is refused.
 fn refuse<K: Sink>(alloc: Global, place: u64, reason: u8, sink: &mut K) -> Result<(), RunFault>
-    ensures told { OnOk result (Appends (K.written sink.old) (K.written sink.new) (input_text place reason)) }
+    ensures told { OnOk result
+        (Appends (K.written sink.old) (K.written sink.new) (input_text place reason)) }
     ensures kept { OnOk result (K.faults sink.new ≡ K.faults sink.old) }
-    ensures front { OnErr result (WritesFront (input_text place reason) (K.written sink.old) (K.written sink.new)) }
+    ensures front { OnErr result
+        (WritesFront (input_text place reason) (K.written sink.old) (K.written sink.new)) }
     ensures cause { IfErr result (λ e. EndsRun e (K.faults sink.old) (K.faults sink.new)) }
 {
     let mut line = Vec::new(alloc);
@@ -41,31 +62,42 @@ fn refuse<K: Sink>(alloc: Global, place: u64, reason: u8, sink: &mut K) -> Resul
     Ok(())
 }
 
-/// Runs a script over both ends, and writes its trace.
-fn run<K: Sink>(alloc: Global, script: &Script, sink: &mut K) -> Result<(), RunFault>
-    ensures traced { OnOk result (Appends (K.written sink.old) (K.written sink.new) (trace script.now)) }
+/// Runs a script over both ends, writes its trace, and gives the world that ran it.
+fn run<K: Sink>(alloc: Global, script: &Script, sink: &mut K) -> Result<World, RunFault>
+    ensures ended { IfOk result (λ world. world ≡ world_after script.now) }
+    ensures traced { OnOk result
+        (Appends (K.written sink.old) (K.written sink.new) (trace script.now)) }
     ensures kept { OnOk result (K.faults sink.new ≡ K.faults sink.old) }
-    ensures front { OnErr result (WritesFront (trace script.now) (K.written sink.old) (K.written sink.new)) }
+    ensures front { OnErr result
+        (WritesFront (trace script.now) (K.written sink.old) (K.written sink.new)) }
     ensures cause { IfErr result (λ e. EndsRun e (K.faults sink.old) (K.faults sink.new)) }
 {
     let mut world = World::new(alloc, script.header())?;
-    world.run(script, sink)
+    world.run(script, sink)?;
+    Ok(world)
 }
 
 /// Runs a script and writes its trace.
-fn run_script<K: Sink>(alloc: Global, script: &Script, sink: &mut K) -> Status
-    ensures ran { Ran result (trace script.now) (K.written sink.old) (K.written sink.new) (K.faults sink.old) (K.faults sink.new) }
+fn run_script<K: Sink>(alloc: Global, script: &Script, sink: &mut K) -> Replayed
+    ensures ended { result.status ≡ Status.Done → result.world ≡ Some (world_after script.now) }
+    ensures no_world { result.status ≢ Status.Done → result.world ≡ None }
+    ensures ran { Ran result.status (trace script.now)
+        (K.written sink.old) (K.written sink.new) (K.faults sink.old) (K.faults sink.new) }
 {
     match run(alloc, script, sink) {
-        Ok(()) => Status::Done,
-        Err(RunFault::NoMemory) => Status::NoMemory,
-        Err(RunFault::Write) => Status::WriteFault,
+        Ok(world) => Replayed {
+            status: Status::Done,
+            world: Some(world),
+        },
+        Err(RunFault::NoMemory) => without_world(Status::NoMemory),
+        Err(RunFault::Write) => without_world(Status::WriteFault),
     }
 }
 
 /// Says where the input's first fault stands.
 fn tell_fault<K: Sink>(alloc: Global, place: u64, reason: u8, sink: &mut K) -> Status
-    ensures ran { Told result place reason (K.written sink.old) (K.written sink.new) (K.faults sink.old) (K.faults sink.new) }
+    ensures ran { Told result place reason
+        (K.written sink.old) (K.written sink.new) (K.faults sink.old) (K.faults sink.new) }
 {
     match refuse(alloc, place, reason, sink) {
         Ok(()) => Status::Input { place, reason },
@@ -75,32 +107,38 @@ fn tell_fault<K: Sink>(alloc: Global, place: u64, reason: u8, sink: &mut K) -> S
 }
 
 /// Runs the script that these bytes spell, or says what is wrong with them.
-fn answer<K: Sink>(alloc: Global, input: Vec<u8>, sink: &mut K) -> Status
-    ensures ends { Ends result input.items (K.written sink.old) (K.written sink.new) (K.faults sink.old) (K.faults sink.new) }
+fn answer<K: Sink>(alloc: Global, input: Vec<u8>, sink: &mut K) -> Replayed
+    ensures no_world { result.status ≢ Status.Done → result.world ≡ None }
+    ensures ends { Ends result.status result.world input.items
+        (K.written sink.old) (K.written sink.new) (K.faults sink.old) (K.faults sink.new) }
 {
     match read(alloc, &input) {
         Ok(script) => {
             drop(input);
             run_script(alloc, &script, sink)
         }
-        Err(ScriptRefusal::Fault { line, reason }) => tell_fault(alloc, line, reason, sink),
-        Err(ScriptRefusal::NoMemory) => Status::NoMemory,
+        Err(ScriptRefusal::Fault { line, reason }) => {
+            without_world(tell_fault(alloc, line, reason, sink))
+        }
+        Err(ScriptRefusal::NoMemory) => without_world(Status::NoMemory),
     }
 }
 
 /// Reads a script whole, runs it, and writes its trace.
-pub fn replay<S: Source, K: Sink>(alloc: Global, source: &mut S, sink: &mut K) -> Status
-    ensures answers { AnswersReplay result
+pub fn replay<S: Source, K: Sink>(alloc: Global, source: &mut S, sink: &mut K) -> Replayed
+    ensures answers { AnswersReplay result.status result.world
         (S.left source.old) (S.left source.new) (K.written sink.old) (K.written sink.new)
         (S.faults source.old) (S.faults source.new) (K.faults sink.old) (K.faults sink.new) }
-    ensures read_fault { result ≡ Status.ReadFault → sink.new ≡ sink.old }
-    ensures too_long { result ≡ Status.TooLong → sink.new ≡ sink.old }
+    ensures no_world { result.status ≢ Status.Done → result.world ≡ None }
+    ensures read_fault { result.status ≡ Status.ReadFault → sink.new ≡ sink.old }
+    ensures too_long { result.status ≡ Status.TooLong → sink.new ≡ sink.old }
 {
     commands_act_once();
+    copies_are_snapshots();
     match read_whole(alloc, source) {
         Ok(input) => answer(alloc, input, sink),
-        Err(InputFault::Read) => Status::ReadFault,
-        Err(InputFault::TooLong) => Status::TooLong,
-        Err(InputFault::NoMemory) => Status::NoMemory,
+        Err(InputFault::Read) => without_world(Status::ReadFault),
+        Err(InputFault::TooLong) => without_world(Status::TooLong),
+        Err(InputFault::NoMemory) => without_world(Status::NoMemory),
     }
 }

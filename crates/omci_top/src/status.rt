@@ -16,10 +16,14 @@ pub enum Status {
     ReadFault,
     /// The sink failed.
     WriteFault,
+    /// The disk failed.
+    DiskFault,
     /// The input has more than 16,777,216 bytes.
     TooLong,
     /// There was not enough memory.
     NoMemory,
+    /// An image is empty, or has more than 1,048,576 bytes.
+    TooLarge,
 }
 
 impl Status {
@@ -33,8 +37,10 @@ impl Status {
             Status::Input { .. } => 2,
             Status::ReadFault => 3,
             Status::WriteFault => 4,
+            Status::DiskFault => 5,
             Status::TooLong => 8,
             Status::NoMemory => 9,
+            Status::TooLarge => 10,
         }
     }
 }

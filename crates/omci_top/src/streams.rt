@@ -1,3 +1,5 @@
+//! Reading a source to its end, and writing to a sink, within the limits of the top call.
+
 ghost use Rattle.std.specs.Prelude.{◌≡◌, ◌<◌, length, vec_len, IfOk, IfErr, OnOk, OnErr};
 ghost use Rattle.omci_top.specs.Streams.{ReadsWhole, EndsReading};
 
@@ -33,9 +35,11 @@ impl From<AllocError> for InputFault {
 
 /// Reads the source to its end, 64 KiB at a time.
 pub fn read_whole<S: Source>(alloc: Global, source: &mut S) -> Result<Vec<u8>, InputFault>
-    ensures whole { IfOk result (λ bytes. ReadsWhole LARGEST_INPUT (S.left source.old) (S.left source.new) bytes.items) }
+    ensures whole { IfOk result (λ bytes.
+        ReadsWhole LARGEST_INPUT (S.left source.old) (S.left source.new) bytes.items) }
     ensures kept { OnOk result (S.faults source.new ≡ S.faults source.old) }
-    ensures end { IfErr result (EndsReading LARGEST_INPUT (S.left source.old) (S.left source.new) (S.faults source.old) (S.faults source.new)) }
+    ensures end { IfErr result (EndsReading LARGEST_INPUT
+        (S.left source.old) (S.left source.new) (S.faults source.old) (S.faults source.new)) }
 {
     let mut piece = zeros(alloc, PIECE_BYTES)?;
     read_by(alloc, source, &mut piece)
@@ -55,9 +59,11 @@ fn read_by<S: Source>(
     piece: &mut [u8],
 ) -> Result<Vec<u8>, InputFault>
     requires { 0 < length piece.old }
-    ensures whole { IfOk result (λ bytes. ReadsWhole LARGEST_INPUT (S.left source.old) (S.left source.new) bytes.items) }
+    ensures whole { IfOk result (λ bytes.
+        ReadsWhole LARGEST_INPUT (S.left source.old) (S.left source.new) bytes.items) }
     ensures kept { OnOk result (S.faults source.new ≡ S.faults source.old) }
-    ensures end { IfErr result (EndsReading LARGEST_INPUT (S.left source.old) (S.left source.new) (S.faults source.old) (S.faults source.new)) }
+    ensures end { IfErr result (EndsReading LARGEST_INPUT
+        (S.left source.old) (S.left source.new) (S.faults source.old) (S.faults source.new)) }
 {
     let mut bytes = Vec::new(alloc);
     loop {

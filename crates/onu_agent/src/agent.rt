@@ -2,7 +2,7 @@
 
 ghost use Rattle.std.specs.Prelude.{◌≡◌, ◌≢◌, ◌⊎◌, length, true, IfOk, OnOk, OnErr, Err};
 ghost use Rattle.unit_spec.specs.declared.Did.TheVariants as did;
-ghost use Rattle.unit_spec.specs.Onu.{onu_started, onu_received, takes_memory};
+ghost use Rattle.unit_spec.specs.Onu.{onu_started, onu_received, onu_ticked, takes_memory};
 ghost use Rattle.onu_agent.specs.State.{sound};
 
 use crate::unit::Unit;
@@ -11,7 +11,8 @@ use std::alloc::Global;
 use std::marker::Model;
 use unit_spec::Did;
 
-/// The unit. Its owner hands it the packets that come, and sends its replies. [`packet`](Agent::packet) alone changes it.
+/// The unit. Its owner hands it the packets that come, sends its replies, and tells it each second that passes.
+/// [`packet`](Agent::packet) and [`tick`](Agent::tick) change it.
 #[derive(Drop)]
 pub struct Agent {
     spent: bool,
@@ -40,8 +41,8 @@ impl Agent {
     /// Takes a packet from the link. `out` is the reply, 48 bytes, where the packet was carried out or its reply was kept, and
     /// else empty.
     ///
-    /// Memory is taken only by a create that no kept reply answers and that makes an entity. Where it runs out, the agent is
-    /// spent: this and each later call answers `NoMemory`.
+    /// Memory is taken only by a create that makes an entity and by an upload, where no kept reply answers it. Where it runs
+    /// out, the agent is spent: this and each later call answers `NoMemory`.
     pub fn packet(&mut self, bytes: &[u8], out: &mut Packet) -> Result<Did, NoMemory>
         ensures unit { OnOk result (self.new ≡ sound (onu_received bytes.now self.old.unit).unit) }
         ensures did { IfOk result (λ d. d ≡ (onu_received bytes.now self.old.unit).did) }
@@ -58,5 +59,14 @@ impl Agent {
         let done = self.unit.packet(bytes, out);
         self.spent = done.is_err();
         done
+    }
+
+    /// A second passes. What was put by for an upload is dropped 60 seconds after it was put by or last asked for a piece
+    /// (ITU-T G.988, clause 9.1.3). Takes no memory. Of a spent agent nothing more is said.
+    pub fn tick(&mut self)
+        ensures spent { self.new.spent ≡ self.old.spent }
+        ensures unit { self.new.unit ≡ onu_ticked self.old.unit }
+    {
+        self.unit.tick();
     }
 }

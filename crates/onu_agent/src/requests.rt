@@ -2,8 +2,9 @@
 
 ghost use Rattle.std.specs.Prelude.{◌≡◌};
 ghost use Rattle.message_spec.specs.Reading.{ResponseWindow};
-ghost use Rattle.mib_spec.specs.Requests.{unless_refused, reset_code, reset as reset_of};
-ghost use Rattle.unit_spec.specs.Onu.{response_frame, refusal_frame, asks_nothing, has_request_bits};
+ghost use Rattle.message_spec.specs.declared.Response.TheVariants as response;
+ghost use Rattle.mib_spec.specs.Requests.{unless_refused, set_outcome, get_outcome, reset_code, reset as reset_of};
+ghost use Rattle.unit_spec.specs.Onu.{response_frame, refusal_frame, asks_nothing, has_request_bits, code};
 
 use entity_classes::class;
 use mib_store::{Mask, Mib};
@@ -67,6 +68,36 @@ pub fn reset_for(mib: &mut Mib, entity: EntityId) -> Code
     }
     mib.reset();
     Code::SUCCESS
+}
+
+/// Stores values in the database.
+pub fn set_for(mib: &mut Mib, entity: EntityId, mask: u16, values: &[u8; 30]) -> Response
+    ensures response { result ≡ (let o = set_outcome entity mask values.now mib.old in
+        response.Set (code o.code) o.unsupported o.failed) }
+    ensures after { mib.new ≡ (set_outcome entity mask values.now mib.old).database }
+{
+    let done = mib.set(entity, Mask(mask), values);
+    Response::Set {
+        code: done.code,
+        unsupported: done.unsupported.0,
+        failed: done.failed.0,
+    }
+}
+
+/// Reads values from the database.
+pub fn get_for(mib: &Mib, entity: EntityId, mask: u16) -> Response
+    ensures response { result ≡ (let o = get_outcome entity mask mib.now in
+        response.Get (code o.code) o.mask o.values o.unsupported 0) }
+{
+    let found = mib.get(entity, Mask(mask));
+    let values = found.values;
+    Response::Get {
+        code: found.code,
+        mask: found.mask.0,
+        values,
+        unsupported: found.unsupported.0,
+        failed: 0,
+    }
 }
 
 /// The frame of a response to a request.

@@ -1,27 +1,37 @@
-//! The unit itself: its database, and for each priority the reply that it gave last.
+//! The unit itself: its database, for each priority the reply that it gave last, and what it put by for an upload.
 
-ghost use Rattle.std.specs.Prelude.{◌≡◌, ◌≢◌, ◌≤◌, length, Bool, true, Option, option_copied, IfOk, OnOk, OnErr, is_some, Some, Ok, []};
+ghost use Rattle.std.specs.Prelude.{◌≡◌, ◌≢◌, ◌≤◌, length, Bool, true, Option, option_copied, IfOk, OnOk, OnErr, is_some, Some, None, Ok, []};
 ghost use Rattle.frame_spec.specs.Baseline.{spelling};
 ghost use Rattle.message_spec.specs.declared.Message.TheVariants as message;
 ghost use Rattle.retry_spec.specs.Kept.{kept_for, kept_with};
 ghost use Rattle.unit_spec.specs.declared.Did.TheVariants as did;
-ghost use Rattle.unit_spec.specs.Onu.{onu_started, onu_received, answer, not_supported, asks_nothing, asked, carried, for_message, unless_quiet, if_request, has_request_bits, makes_entity, message_takes, takes_memory};
+ghost use Rattle.unit_spec.specs.Onu.{onu_started, onu_received, onu_ticked, answer, upload, next_piece, fresh_again, second_older, not_supported, asks_nothing, take_request, keep_reply, for_message, unless_quiet, if_request, has_request_bits, takes_room, message_takes, takes_memory};
 ghost use Rattle.onu_agent.specs.State.{reception};
 
-use crate::requests::{is_quiet, is_request, refusal_of, reset_for, response_to};
-use mib_store::{Mask, Mib};
+use crate::requests::{get_for, is_quiet, is_request, refusal_of, reset_for, response_to, set_for};
+use crate::upload::Upload;
+use mib_store::Mib;
 use omci_contents::{ContentsFault, Message, Request, Response, read_message};
 use omci_core::{NoMemory, Packet, Software};
 use omci_frames::{Frame, encode, packet_frame};
 use retry_cache::Kept;
 use std::alloc::Global;
 use std::marker::Model;
-use unit_spec::Did;
+use unit_spec::{Did, Note};
 
 #[derive(Drop)]
 pub struct Unit {
+    alloc: Global,
     mib: Mib,
     kept: Kept,
+    upload: Option<Upload>,
+}
+
+/// What carrying a request out came to: the response's frame, and what else is told of it.
+#[derive(Clone, Copy)]
+struct Deed {
+    reply: Frame,
+    note: Option<Note>,
 }
 
 impl Model for Unit {
@@ -30,20 +40,22 @@ impl Model for Unit {
 
     ghost Value = { Onu };
 
-    ghost view = { λ u. record { database = u.mib; kept = u.kept } };
+    ghost view = { λ u. record { database = u.mib; kept = u.kept; snapshot = u.upload } };
 
     ghost invariant = { λ u. AreFrames u.kept };
 }
 
 impl Unit {
-    /// A unit that starts with this software: the first database, and nothing kept.
+    /// A unit that starts with this software: the first database, nothing kept, and nothing put by.
     #[tactic(auto, unfolding(unit_spec::specs::Onu::onu_started))]
     pub fn start(alloc: Global, software: Software) -> Result<Unit, NoMemory>
         ensures started { IfOk result (λ u. u ≡ onu_started software) }
     {
         Ok(Unit {
+            alloc,
             mib: Mib::new(alloc, software)?,
             kept: Kept::new(),
+            upload: None,
         })
     }
 
@@ -81,7 +93,7 @@ impl Unit {
     }
 
     /// Takes a request: one that asks for a reply is answered by its kept reply, or carried out.
-    #[tactic(auto, unfolding(unit_spec::specs::Onu::asked))]
+    #[tactic(auto, unfolding(unit_spec::specs::Onu::take_request))]
     fn request(
         &mut self,
         request: &Request,
@@ -99,13 +111,13 @@ impl Unit {
         if self.give_again(frame.tci, out) {
             return Ok(Did::Kept);
         }
-        let reply = self.carry_out(frame, request)?;
-        self.give(frame.tci, &reply, out);
-        Ok(Did::Carried)
+        let deed = self.carry_out(frame, request)?;
+        self.give(frame.tci, &deed.reply, out);
+        Ok(Did::Carried { note: deed.note })
     }
 
     /// Takes a frame of an unknown type, which is a request where its type byte has the bits of one.
-    #[tactic(auto, unfolding(unit_spec::specs::Onu::asked))]
+    #[tactic(auto, unfolding(unit_spec::specs::Onu::take_request))]
     fn unknown(&mut self, frame: &Frame, out: &mut Packet) -> Did
         ensures received { reception self.new result out.new ≡ if_request (has_request_bits frame.now.kind) frame.now self.old }
         ensures whole { result ≢ did.Dropped → length out.new ≡ 48 }
@@ -117,7 +129,7 @@ impl Unit {
             return Did::Kept;
         }
         self.give(frame.tci, &refusal_of(frame), out);
-        Did::Carried
+        Did::Carried { note: None }
     }
 
     /// Gives the kept reply to the request of this TCI, where there is one.
@@ -149,50 +161,86 @@ impl Unit {
         out.put(&bytes);
     }
 
-    /// Carries a request out, and gives the response's frame.
+    /// Carries a request out.
     #[tactic(auto, unfolding(unit_spec::specs::Onu::answer))]
-    fn carry_out(&mut self, frame: &Frame, request: &Request) -> Result<Frame, NoMemory>
-        ensures reply { IfOk result (λ reply. reply ≡ (answer frame.now request.now self.old).reply) }
+    fn carry_out(&mut self, frame: &Frame, request: &Request) -> Result<Deed, NoMemory>
+        ensures reply { IfOk result (λ deed. deed.reply ≡ (answer frame.now request.now self.old).reply) }
+        ensures note { IfOk result (λ deed. deed.note ≡ (answer frame.now request.now self.old).note) }
         ensures after { OnOk result (self.new ≡ (answer frame.now request.now self.old).unit) }
-        ensures memory { OnErr result (makes_entity frame.now request.now self.old.database ≡ true) }
+        ensures memory { OnErr result (takes_room frame.now request.now self.old.database ≡ true) }
     {
-        match request {
-            Request::Create { values } => {
-                let code = self.mib.create(frame.entity, values)?;
-                Ok(response_to(frame, Response::Create { code, mask: 0 }))
-            }
-            Request::Delete => {
-                let code = self.mib.delete(frame.entity);
-                Ok(response_to(frame, Response::Delete { code }))
-            }
-            Request::Set { mask, values } => {
-                let done = self.mib.set(frame.entity, Mask(*mask), values);
-                let response = Response::Set {
-                    code: done.code,
-                    unsupported: done.unsupported.0,
-                    failed: done.failed.0,
-                };
-                Ok(response_to(frame, response))
-            }
-            Request::Get { mask } => {
-                let found = self.mib.get(frame.entity, Mask(*mask));
-                let values = found.values;
-                let response = Response::Get {
-                    code: found.code,
-                    mask: found.mask.0,
-                    values,
-                    unsupported: found.unsupported.0,
-                    failed: 0,
-                };
-                Ok(response_to(frame, response))
-            }
-            Request::Reset => {
-                let code = reset_for(&mut self.mib, frame.entity);
-                Ok(response_to(frame, Response::Reset { code }))
-            }
-            _ => Ok(refusal_of(frame)),
+        let response = match request {
+            Request::Upload => return self.put_by(frame),
+            Request::UploadNext { number } => Response::UploadNext {
+                piece: self.next_piece(*number),
+            },
+            Request::Create { values } => Response::Create {
+                code: self.mib.create(frame.entity, values)?,
+                mask: 0,
+            },
+            Request::Delete => Response::Delete {
+                code: self.mib.delete(frame.entity),
+            },
+            Request::Set { mask, values } => set_for(&mut self.mib, frame.entity, *mask, values),
+            Request::Get { mask } => get_for(&self.mib, frame.entity, *mask),
+            Request::Reset => Response::Reset {
+                code: reset_for(&mut self.mib, frame.entity),
+            },
+            _ => return Ok(plain_deed(refusal_of(frame))),
+        };
+        Ok(plain_deed(response_to(frame, response)))
+    }
+
+    /// Puts the database by for an upload. What was put by before is dropped.
+    fn put_by(&mut self, frame: &Frame) -> Result<Deed, NoMemory>
+        ensures reply { IfOk result (λ deed. deed.reply ≡ (upload frame.now self.old).reply) }
+        ensures note { IfOk result (λ deed. deed.note ≡ (upload frame.now self.old).note) }
+        ensures after { OnOk result (self.new ≡ (upload frame.now self.old).unit) }
+    {
+        let taken = Upload::of(self.alloc, &self.mib)?;
+        let response = Response::Upload {
+            count: taken.count(),
+        };
+        let note = Some(taken.note());
+        self.upload = Some(taken);
+        Ok(Deed {
+            reply: response_to(frame, response),
+            note,
+        })
+    }
+
+    /// The piece of that number of what was put by, or zeros.
+    fn next_piece(&mut self, number: u16) -> [u8; 32]
+        ensures value { result ≡ next_piece number self.old.snapshot }
+        ensures after { self.new ≡ record self.old { snapshot = fresh_again self.old.snapshot } }
+    {
+        match &mut self.upload {
+            Some(upload) => upload.piece(number),
+            None => [0; 32],
         }
     }
+
+    /// A second passes: what was put by is a second older, or is dropped.
+    #[tactic(auto, unfolding(unit_spec::specs::Onu::onu_ticked))]
+    pub fn tick(&mut self)
+        ensures ticked { self.new ≡ onu_ticked self.old }
+    {
+        let Some(upload) = &mut self.upload else {
+            return;
+        };
+        if upload.is_over() {
+            self.upload = None;
+        } else {
+            upload.grow_older();
+        }
+    }
+}
+
+/// A deed of which nothing else is told.
+fn plain_deed(reply: Frame) -> Deed
+    ensures value { result ≡ record { reply = reply; note = None } }
+{
+    Deed { reply, note: None }
 }
 
 /// A packet that asks nothing has no reply.

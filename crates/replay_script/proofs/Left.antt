@@ -5,11 +5,13 @@ use Rattle.script_spec.specs.Reading.{word_at}
 use Rattle.replay_script.specs.Answers.{words_left}
 
 -- no word is left
-pub none_left : (rest : Option (List ℕ)) (words : List (List ℕ)) → words_left rest ≡ words → rest ≡ None → word_at words ≡ Err 1
-unfolding word_at
+pub none_left : (rest : Option (List ℕ)) (words : List (List ℕ)) → words_left rest ≡ words
+    → rest ≡ None → word_at words ≡ Err 1
 none_left rest words view none = ap word_at (sym view ∙ ap words_left none)
 
 -- the first word of the text that is left
-pub some_left : (rest : Option (List ℕ)) (words : List (List ℕ)) (text word : List ℕ) (left : Option (List ℕ)) → words_left rest ≡ words → rest ≡ Some text → words_of text ≡ word ∷ words_left left → word_at words ≡ Ok (word, words_left left)
-unfolding word_at
-some_left rest words text word left view some first = ap word_at (sym view ∙ ap words_left some ∙ first)
+pub some_left : (rest : Option (List ℕ)) (words : List (List ℕ)) (text word : List ℕ)
+    (left : Option (List ℕ)) → words_left rest ≡ words → rest ≡ Some text
+    → words_of text ≡ word ∷ words_left left → word_at words ≡ Ok (word, words_left left)
+some_left rest words text word left view some first =
+    ap word_at (sym view ∙ ap words_left some ∙ first)

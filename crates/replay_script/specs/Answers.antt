@@ -1,5 +1,6 @@
 -- How an answer of the code stands to what reading gives.
-use Rattle.std.specs.Prelude.{◌≡◌, ◌≢◌, ℕ, ◌⊎◌, List, [], ◌∷◌, ◌++◌, codes, Option, Some, None, Result, Ok, Err}
+use Rattle.std.specs.Prelude.{◌≡◌, ◌≢◌, ℕ, ◌⊎◌, List, [], ◌∷◌, ◌++◌, codes, Option, Some, None}
+use Rattle.std.specs.Prelude.{Result, Ok, Err}
 use Rattle.script_spec.specs.declared.Line.{Line}
 use Rattle.script_spec.specs.Script.{Script}
 use Rattle.script_spec.specs.Text.{words_of, after_name}
@@ -18,12 +19,15 @@ words_left None = []
 
 -- one of two kinds of line, by the end that the first word names, and the words after it
 abbrev pub end_named : Line → Line → List (List ℕ) → Option (Line × List (List ℕ))
-end_named unit olt words = or_among unit (after_name (codes "unit" ∷ []) words) (or_among olt (after_name (codes "olt" ∷ []) words) None)
+end_named unit olt words =
+    or_among unit (after_name (codes "unit" ∷ []) words)
+    (or_among olt (after_name (codes "olt" ∷ []) words) None)
 
 -- what stands before a line feed, and the line's text: one carriage return at the end is no part of
 -- it
 abbrev pub IsTextOf : List ℕ → List ℕ → Type 0
-IsTextOf line text = (line ≡ text ++ (13 ∷ [])) ⊎ ((text ≡ line) × ((front : List ℕ) → line ≢ front ++ (13 ∷ [])))
+IsTextOf line text =
+    (line ≡ text ++ (13 ∷ [])) ⊎ ((text ≡ line) × ((front : List ℕ) → line ≢ front ++ (13 ∷ [])))
 
 -- the answer, seen by `view`, is what reading a line gives, unless memory ran out
 abbrev pub Fails : {Y : Type 0} → LineRefusal → Result Y ℕ → Type 0
@@ -39,13 +43,16 @@ abbrev pub FailsScript : {Y : Type 0} → ScriptRefusal → Result Y (ℕ × ℕ
 FailsScript (script.Fault line reason) read = read ≡ Err (line, reason)
 FailsScript script.NoMemory read = Unit {0}
 
-abbrev pub GivesScript : {X Y : Type 0} → (X → Y) → Result X ScriptRefusal → Result Y (ℕ × ℕ) → Type 0
+abbrev pub GivesScript : {X Y : Type 0} → (X → Y) → Result X ScriptRefusal → Result Y (ℕ × ℕ)
+    → Type 0
 GivesScript view (Ok value) read = read ≡ Ok (view value)
 GivesScript view (Err refusal) read = FailsScript refusal read
 
 -- a script that the bytes write is the answer, unless memory ran out
 abbrev pub ReadsOnly : Result Script ScriptRefusal → List ℕ → Type 0
-ReadsOnly answer bytes = (written : Script) → Writes written bytes → (answer ≡ Ok written) ⊎ (answer ≡ Err script.NoMemory)
+ReadsOnly answer bytes =
+    (written : Script) → Writes written bytes
+    → (answer ≡ Ok written) ⊎ (answer ≡ Err script.NoMemory)
 
 -- a refusal for a fault names the first fault of the bytes
 abbrev pub IsFaultOf : ScriptRefusal → List ℕ → Type 0
@@ -54,4 +61,6 @@ IsFaultOf script.NoMemory bytes = Unit {0}
 
 -- the first fault of the bytes is the answer, unless memory ran out
 abbrev pub RefusesOnly : Result Script ScriptRefusal → List ℕ → Type 0
-RefusesOnly answer bytes = (line reason : ℕ) → fault bytes ≡ Some (line, reason) → (answer ≡ Err (script.Fault line reason)) ⊎ (answer ≡ Err script.NoMemory)
+RefusesOnly answer bytes =
+    (line reason : ℕ) → fault bytes ≡ Some (line, reason)
+    → (answer ≡ Err (script.Fault line reason)) ⊎ (answer ≡ Err script.NoMemory)

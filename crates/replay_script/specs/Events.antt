@@ -1,7 +1,11 @@
 -- What an event and a header say, apart from where their bytes lie in memory.
 use Rattle.script_spec.specs.Script as spec
 use Rattle.replay_script.specs.declared.script.Event.{Event}
-use Rattle.replay_script.specs.declared.script.Event.TheVariants.{Probe, Reset, Get, Create, Set, Delete, Deliver, Flow, NoiseUnit, NoiseOlt, Tick, CutUnit, CutOlt, StartUnit, StartOlt}
+use Rattle.replay_script.specs.declared.script.Event.TheVariants.{Probe, Reset, Get, Create, Set}
+use Rattle.replay_script.specs.declared.script.Event.TheVariants.{Delete, Resync, Check, Deliver}
+use Rattle.replay_script.specs.declared.script.Event.TheVariants.{Flow, NoiseUnit, NoiseOlt, Tick}
+use Rattle.replay_script.specs.declared.script.Event.TheVariants.{CutUnit, CutOlt, StartUnit}
+use Rattle.replay_script.specs.declared.script.Event.TheVariants.{StartOlt}
 use Rattle.replay_script.specs.declared.script.Header.{Header}
 
 abbrev pub action_of : Event → spec.Action
@@ -11,6 +15,8 @@ action_of (Get lane entity mask) = spec.Get lane entity mask
 action_of (Create lane entity values) = spec.Create lane entity values
 action_of (Set lane entity mask values) = spec.Set lane entity mask values
 action_of (Delete lane entity) = spec.Delete lane entity
+action_of Resync = spec.Resync
+action_of Check = spec.Check
 action_of (Deliver packet) = spec.Deliver packet
 action_of (Flow times) = spec.Flow times
 action_of (NoiseUnit bytes) = spec.NoiseUnit bytes
@@ -22,4 +28,5 @@ action_of StartUnit = spec.StartUnit
 action_of (StartOlt low high) = spec.StartOlt low high
 
 abbrev pub header_of : Header → spec.Header
-header_of header = record { room = header.room; low = header.low; high = header.high; factory = header.factory }
+header_of header =
+    record { room = header.room; low = header.low; high = header.high; factory = header.factory }

@@ -25,6 +25,8 @@ pub(crate) fn event_of(alloc: Global, mut words: LineWords<'_>) -> Result<Event,
         Line::Create => create_event(alloc, words),
         Line::Set => set_event(alloc, words),
         Line::Delete => delete_event(words),
+        Line::Resync => resync_event(words),
+        Line::Check => check_event(words),
         Line::Deliver => deliver_event(words),
         Line::Flow => flow_event(words),
         Line::NoiseUnit => noise_unit_event(alloc, words),
@@ -121,6 +123,24 @@ fn delete_event(mut words: LineWords<'_>) -> Result<Event, LineRefusal>
             instance: words.id()?,
         },
     })
+}
+
+/// No word stands after `resync`.
+#[tactic(auto, unfolding(script_spec::specs::Reading::action_at))]
+fn resync_event(words: LineWords<'_>) -> Result<Event, LineRefusal>
+    ensures value { Gives action_of result (action_at Line.Resync words.entry) }
+{
+    words.expect(0)?;
+    Ok(Event::Resync)
+}
+
+/// No word stands after `check`.
+#[tactic(auto, unfolding(script_spec::specs::Reading::action_at))]
+fn check_event(words: LineWords<'_>) -> Result<Event, LineRefusal>
+    ensures value { Gives action_of result (action_at Line.Check words.entry) }
+{
+    words.expect(0)?;
+    Ok(Event::Check)
 }
 
 /// The word after `deliver`: the packet's number.

@@ -30,9 +30,10 @@ pub fn print(alloc: Global, script: &Script) -> Result<Vec<u8>, NoMemory>
 }
 
 /// Appends the header's line.
-#[tactic(auto, unfolding(script_spec::specs::Canonical::header_text, script_spec::specs::Canonical::line_text, script_spec::specs::Canonical::word_text))]
+#[tactic(auto, unfolding(script_spec::specs::Canonical::line_text))]
 fn put_header(alloc: Global, out: &mut Vec<u8>, header: &Header) -> Result<(), NoMemory>
-    ensures appended { OnOk result (out.new.items ≡ out.old.items ++ header_text (header_of header.now)) }
+    ensures appended { OnOk result
+        (out.new.items ≡ out.old.items ++ header_text (header_of header.now)) }
 {
     put(out, b"omci 1")?;
     put_number(out, u64::from(header.room))?;
@@ -44,9 +45,10 @@ fn put_header(alloc: Global, out: &mut Vec<u8>, header: &Header) -> Result<(), N
 }
 
 /// Appends an event's line.
-#[tactic(auto, unfolding(script_spec::specs::Canonical::action_text, script_spec::specs::Canonical::line_text, script_spec::specs::Canonical::word_text))]
+#[tactic(auto, unfolding(script_spec::specs::Canonical::line_text))]
 fn put_event(alloc: Global, out: &mut Vec<u8>, event: &Event) -> Result<(), NoMemory>
-    ensures appended { OnOk result (out.new.items ≡ out.old.items ++ action_text (action_of event.now)) }
+    ensures appended { OnOk result
+        (out.new.items ≡ out.old.items ++ action_text (action_of event.now)) }
 {
     match event {
         Event::Probe { lane } => put_on_lane(out, b"probe", *lane),
@@ -64,6 +66,8 @@ fn put_event(alloc: Global, out: &mut Vec<u8>, event: &Event) -> Result<(), NoMe
             values,
         } => put_set(alloc, out, *lane, *entity, *mask, values.bytes()),
         Event::Delete { lane, entity } => put_delete(out, *lane, *entity),
+        Event::Resync => put(out, b"resync\n"),
+        Event::Check => put(out, b"check\n"),
         Event::Deliver { packet } => put_deliver(out, *packet),
         Event::Flow { times } => put_flow(out, u64::from(*times)),
         Event::NoiseUnit { bytes } => put_noise_unit(alloc, out, bytes.bytes()),
@@ -78,7 +82,8 @@ fn put_event(alloc: Global, out: &mut Vec<u8>, event: &Event) -> Result<(), NoMe
 
 /// Appends a line of a name and a lane.
 fn put_on_lane(out: &mut Vec<u8>, name: &[u8], lane: Priority) -> Result<(), NoMemory>
-    ensures appended { OnOk result (out.new.items ≡ out.old.items ++ name.now ++ 32 ∷ lane_text lane ++ 10 ∷ []) }
+    ensures appended { OnOk result
+        (out.new.items ≡ out.old.items ++ name.now ++ 32 ∷ lane_text lane ++ 10 ∷ []) }
 {
     put(out, name)?;
     put_lane(out, lane)?;
@@ -87,9 +92,10 @@ fn put_on_lane(out: &mut Vec<u8>, name: &[u8], lane: Priority) -> Result<(), NoM
 }
 
 /// Appends the line of a get.
-#[tactic(auto, unfolding(script_spec::specs::Canonical::action_text, script_spec::specs::Canonical::line_text, script_spec::specs::Canonical::word_text))]
+#[tactic(auto, unfolding(script_spec::specs::Canonical::line_text))]
 fn put_get(out: &mut Vec<u8>, lane: Priority, entity: EntityId, mask: u16) -> Result<(), NoMemory>
-    ensures appended { OnOk result (out.new.items ≡ out.old.items ++ action_text (spec.Get lane entity mask)) }
+    ensures appended { OnOk result
+        (out.new.items ≡ out.old.items ++ action_text (spec.Get lane entity mask)) }
 {
     put(out, b"get")?;
     put_lane(out, lane)?;
@@ -101,7 +107,7 @@ fn put_get(out: &mut Vec<u8>, lane: Priority, entity: EntityId, mask: u16) -> Re
 }
 
 /// Appends the line of a create.
-#[tactic(auto, unfolding(script_spec::specs::Canonical::action_text, script_spec::specs::Canonical::line_text, script_spec::specs::Canonical::word_text))]
+#[tactic(auto, unfolding(script_spec::specs::Canonical::line_text))]
 fn put_create(
     alloc: Global,
     out: &mut Vec<u8>,
@@ -109,7 +115,8 @@ fn put_create(
     entity: EntityId,
     values: &[u8],
 ) -> Result<(), NoMemory>
-    ensures appended { OnOk result (out.new.items ≡ out.old.items ++ action_text (spec.Create lane entity values.now)) }
+    ensures appended { OnOk result
+        (out.new.items ≡ out.old.items ++ action_text (spec.Create lane entity values.now)) }
 {
     put(out, b"create")?;
     put_lane(out, lane)?;
@@ -121,7 +128,7 @@ fn put_create(
 }
 
 /// Appends the line of a set.
-#[tactic(auto, unfolding(script_spec::specs::Canonical::action_text, script_spec::specs::Canonical::line_text, script_spec::specs::Canonical::word_text))]
+#[tactic(auto, unfolding(script_spec::specs::Canonical::line_text))]
 fn put_set(
     alloc: Global,
     out: &mut Vec<u8>,
@@ -130,7 +137,8 @@ fn put_set(
     mask: u16,
     values: &[u8],
 ) -> Result<(), NoMemory>
-    ensures appended { OnOk result (out.new.items ≡ out.old.items ++ action_text (spec.Set lane entity mask values.now)) }
+    ensures appended { OnOk result
+        (out.new.items ≡ out.old.items ++ action_text (spec.Set lane entity mask values.now)) }
 {
     put(out, b"set")?;
     put_lane(out, lane)?;
@@ -143,9 +151,10 @@ fn put_set(
 }
 
 /// Appends the line of a delete.
-#[tactic(auto, unfolding(script_spec::specs::Canonical::action_text, script_spec::specs::Canonical::line_text, script_spec::specs::Canonical::word_text))]
+#[tactic(auto, unfolding(script_spec::specs::Canonical::line_text))]
 fn put_delete(out: &mut Vec<u8>, lane: Priority, entity: EntityId) -> Result<(), NoMemory>
-    ensures appended { OnOk result (out.new.items ≡ out.old.items ++ action_text (spec.Delete lane entity)) }
+    ensures appended { OnOk result
+        (out.new.items ≡ out.old.items ++ action_text (spec.Delete lane entity)) }
 {
     put(out, b"delete")?;
     put_lane(out, lane)?;
@@ -156,9 +165,10 @@ fn put_delete(out: &mut Vec<u8>, lane: Priority, entity: EntityId) -> Result<(),
 }
 
 /// Appends the line of a delivery.
-#[tactic(auto, unfolding(script_spec::specs::Canonical::action_text, script_spec::specs::Canonical::line_text, script_spec::specs::Canonical::word_text))]
+#[tactic(auto, unfolding(script_spec::specs::Canonical::line_text))]
 fn put_deliver(out: &mut Vec<u8>, packet: u64) -> Result<(), NoMemory>
-    ensures appended { OnOk result (out.new.items ≡ out.old.items ++ action_text (spec.Deliver packet)) }
+    ensures appended { OnOk result
+        (out.new.items ≡ out.old.items ++ action_text (spec.Deliver packet)) }
 {
     put(out, b"deliver")?;
     put_number(out, packet)?;
@@ -167,9 +177,10 @@ fn put_deliver(out: &mut Vec<u8>, packet: u64) -> Result<(), NoMemory>
 }
 
 /// Appends the line of a flow.
-#[tactic(auto, unfolding(script_spec::specs::Canonical::action_text, script_spec::specs::Canonical::line_text, script_spec::specs::Canonical::word_text))]
+#[tactic(auto, unfolding(script_spec::specs::Canonical::line_text))]
 fn put_flow(out: &mut Vec<u8>, times: u64) -> Result<(), NoMemory>
-    ensures appended { OnOk result (out.new.items ≡ out.old.items ++ action_text (spec.Flow times)) }
+    ensures appended { OnOk result
+        (out.new.items ≡ out.old.items ++ action_text (spec.Flow times)) }
 {
     put(out, b"flow")?;
     put_number(out, times)?;
@@ -178,9 +189,10 @@ fn put_flow(out: &mut Vec<u8>, times: u64) -> Result<(), NoMemory>
 }
 
 /// Appends the line of noise at the unit.
-#[tactic(auto, unfolding(script_spec::specs::Canonical::action_text, script_spec::specs::Canonical::line_text, script_spec::specs::Canonical::word_text))]
+#[tactic(auto, unfolding(script_spec::specs::Canonical::line_text))]
 fn put_noise_unit(alloc: Global, out: &mut Vec<u8>, bytes: &[u8]) -> Result<(), NoMemory>
-    ensures appended { OnOk result (out.new.items ≡ out.old.items ++ action_text (spec.NoiseUnit bytes.now)) }
+    ensures appended { OnOk result
+        (out.new.items ≡ out.old.items ++ action_text (spec.NoiseUnit bytes.now)) }
 {
     put(out, b"noise unit")?;
     put_bytes(alloc, out, bytes)?;
@@ -189,9 +201,10 @@ fn put_noise_unit(alloc: Global, out: &mut Vec<u8>, bytes: &[u8]) -> Result<(), 
 }
 
 /// Appends the line of noise at the manager.
-#[tactic(auto, unfolding(script_spec::specs::Canonical::action_text, script_spec::specs::Canonical::line_text, script_spec::specs::Canonical::word_text))]
+#[tactic(auto, unfolding(script_spec::specs::Canonical::line_text))]
 fn put_noise_olt(alloc: Global, out: &mut Vec<u8>, bytes: &[u8]) -> Result<(), NoMemory>
-    ensures appended { OnOk result (out.new.items ≡ out.old.items ++ action_text (spec.NoiseOlt bytes.now)) }
+    ensures appended { OnOk result
+        (out.new.items ≡ out.old.items ++ action_text (spec.NoiseOlt bytes.now)) }
 {
     put(out, b"noise olt")?;
     put_bytes(alloc, out, bytes)?;
@@ -200,9 +213,10 @@ fn put_noise_olt(alloc: Global, out: &mut Vec<u8>, bytes: &[u8]) -> Result<(), N
 }
 
 /// Appends the line of a manager's start.
-#[tactic(auto, unfolding(script_spec::specs::Canonical::action_text, script_spec::specs::Canonical::line_text, script_spec::specs::Canonical::word_text))]
+#[tactic(auto, unfolding(script_spec::specs::Canonical::line_text))]
 fn put_start_olt(out: &mut Vec<u8>, low: u16, high: u16) -> Result<(), NoMemory>
-    ensures appended { OnOk result (out.new.items ≡ out.old.items ++ action_text (spec.StartOlt low high)) }
+    ensures appended { OnOk result
+        (out.new.items ≡ out.old.items ++ action_text (spec.StartOlt low high)) }
 {
     put(out, b"start olt")?;
     put_number(out, u64::from(low))?;
@@ -233,7 +247,8 @@ fn put_number(out: &mut Vec<u8>, number: u64) -> Result<(), NoMemory>
 
 /// Appends a mask's four hex digits after a space.
 fn put_mask(out: &mut Vec<u8>, mask: u16) -> Result<(), NoMemory>
-    ensures appended { OnOk result (out.new.items ≡ out.old.items ++ 32 ∷ encode_lower (to_be_bytes w16 mask)) }
+    ensures appended { OnOk result
+        (out.new.items ≡ out.old.items ++ 32 ∷ encode_lower (to_be_bytes w16 mask)) }
 {
     let mut digits = [0; 4];
     let _fits = hex::encode_to_slice(mask.to_be_bytes().as_slice(), &mut digits);

@@ -1,12 +1,15 @@
 //! Reading a script in one pass: the header, and then the events.
 
-ghost use Rattle.std.specs.Prelude.{◌≡◌, ◌+◌, ◌≤◌, ◌<◌, ◌^◌, ◌++◌, map, length, Option, Ok, MatchResult, IfOk, IfErr};
+ghost use Rattle.std.specs.Prelude.{◌≡◌, ◌+◌, ◌≤◌, ◌<◌, ◌^◌, ◌++◌, map, length, Option, Ok};
+ghost use Rattle.std.specs.Prelude.{MatchResult, IfOk, IfErr};
 ghost use Rattle.std.specs.Option.{option_to_list};
 ghost use Rattle.script_spec.specs.Script.{Action, IsScript};
 ghost use Rattle.script_spec.specs.Text.{lines_of, words_of};
-ghost use Rattle.script_spec.specs.Reading.{line_action, header_at, as_header, on_line, event_at, events_reading, script_reading, reading};
+ghost use Rattle.script_spec.specs.Reading.{line_action, header_at, as_header, on_line, event_at};
+ghost use Rattle.script_spec.specs.Reading.{events_reading, script_reading, reading};
 ghost use Rattle.script_spec.specs.Grammar.{Writes};
-ghost use Rattle.replay_script.specs.Answers.{Gives, GivesScript, FailsScript, ReadsOnly, IsFaultOf, RefusesOnly};
+ghost use Rattle.replay_script.specs.Answers.{Gives, GivesScript, FailsScript, ReadsOnly};
+ghost use Rattle.replay_script.specs.Answers.{IsFaultOf, RefusesOnly};
 ghost use Rattle.replay_script.specs.Events.{action_of, header_of};
 
 use crate::events::event_of;
@@ -97,7 +100,8 @@ fn header_of(alloc: Global, mut words: LineWords<'_>) -> Result<Header, LineRefu
 /// The events of lines, the first of which has the number `first`.
 fn events_of(alloc: Global, first: u64, bytes: &[u8]) -> Result<Vec<Event>, ScriptRefusal>
     requires { first + length bytes.now < 2 ^ 64 }
-    ensures value { GivesScript (λ events. map action_of events.items) result (events_reading first (lines_of bytes.now)) }
+    ensures value { GivesScript (λ events. map action_of events.items) result
+        (events_reading first (lines_of bytes.now)) }
 {
     let mut events = Vec::new(alloc);
     let mut rest = bytes;
@@ -120,7 +124,8 @@ fn read_line(
 ) -> Result<(), ScriptRefusal>
     ensures value { MatchResult result
         (λ _. (action : Option Action) × (on_line line (event_at text.now) ≡ Ok action)
-        × (map action_of events.new.items ≡ map action_of events.old.items ++ option_to_list action))
+        × (map action_of events.new.items
+        ≡ map action_of events.old.items ++ option_to_list action))
         (λ e. FailsScript e (on_line line (event_at text.now))) }
 {
     if is_passed_over(text) {

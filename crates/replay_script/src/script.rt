@@ -57,6 +57,10 @@ pub enum Event {
         lane: Priority,
         entity: EntityId,
     },
+    /// The manager takes the unit's database over by an upload.
+    Resync,
+    /// The manager asks for the unit's MIB data sync, to compare it with its copy's.
+    Check,
     /// The link delivers the packet of this number, counted from 0.
     Deliver {
         packet: u64,
@@ -104,9 +108,15 @@ impl Model for Script {
 
     ghost Value = { Value_of_script };
 
-    ghost view = { λ s. record { header = header_of s.header; actions = map action_of s.events.items } };
+    ghost view = { λ s. record {
+      header = header_of s.header;
+      actions = map action_of s.events.items;
+    } };
 
-    ghost invariant = { λ s. IsScript (record { header = header_of s.header; actions = map action_of s.events.items }) };
+    ghost invariant = { λ s. IsScript (record {
+      header = header_of s.header;
+      actions = map action_of s.events.items;
+    }) };
 }
 
 impl Script {
@@ -116,7 +126,8 @@ impl Script {
     pub(crate) fn new(header: Header, events: Vec<Event>) -> Script
         requires header { IsHeader (header_of header) }
         requires events { All IsAction (map action_of events.items) }
-        ensures value { result ≡ record { header = header_of header; actions = map action_of events.items } }
+        ensures value { result
+            ≡ record { header = header_of header; actions = map action_of events.items } }
     {
         Script { header, events }
     }

@@ -1,20 +1,26 @@
 //! The words of a line, read one after the other.
 
-ghost use Rattle.std.specs.Prelude.{◌≡◌, ◌==◌, ◌≤◌, [], ◌∷◌, if◌then◌else◌, IfOk, length, true, Some, None};
+ghost use Rattle.std.specs.Prelude.{◌≡◌, ◌==◌, ◌≤◌, [], ◌∷◌, if◌then◌else◌, IfOk, length, true};
+ghost use Rattle.std.specs.Prelude.{Some, None};
 ghost use Rattle.std.specs.List.{AllPass, list_all, count_by};
 ghost use Rattle.std.specs.Char.{is_ascii_digit};
-ghost use Rattle.script_spec.specs.Fields.{Lane as LaneSaid, Number as NumberSaid, Bytes as BytesSaid, LaneName, Decimal, MaskDigits, HexBytes, NoiseBytes};
-ghost use Rattle.script_spec.specs.Text.{words_of, after_name, decimal_value, is_numeral, hex_bytes, mask_of};
-ghost use Rattle.script_spec.specs.Reading.{word_at, counted, field_at, line_at, or_among, lane_of, bytes_of, noise_of, or_reason};
+ghost use Rattle.script_spec.specs.Fields.{Lane as LaneSaid, Number as NumberSaid};
+ghost use Rattle.script_spec.specs.Fields.{Bytes as BytesSaid, LaneName, Decimal, MaskDigits};
+ghost use Rattle.script_spec.specs.Fields.{HexBytes, NoiseBytes};
+ghost use Rattle.script_spec.specs.Text.{words_of, after_name, decimal_value, is_numeral};
+ghost use Rattle.script_spec.specs.Text.{hex_bytes, mask_of};
+ghost use Rattle.script_spec.specs.Reading.{word_at, counted, field_at, line_at, or_among, lane_of};
+ghost use Rattle.script_spec.specs.Reading.{bytes_of, noise_of, or_reason};
 ghost use Rattle.script_spec.specs.declared.TheConstants.{WORD_FAULT, HEX_FAULT};
 ghost use Rattle.std.specs.Option.{option_copied};
 ghost use Rattle.replay_script.specs.Answers.{Gives, words_left, end_named};
 
 use crate::lines::place_of;
 use crate::refusal::LineRefusal;
+use frame_spec::LAST_NUMBER;
 use omci_core::{Bytes, Priority};
 use omci_frames::decode;
-use script_spec::{LAST_NUMBER, Line, MAX_DIGITS, MAX_ID, MAX_NOISE};
+use script_spec::{Line, MAX_DIGITS, MAX_ID, MAX_NOISE};
 use std::alloc::Global;
 use std::marker::Model;
 
@@ -78,9 +84,9 @@ impl<'a> LineWords<'a> {
     }
 
     /// A word that has to be this text.
-    #[tactic(auto, unfolding(script_spec::specs::Reading::word_at))]
     pub(crate) fn literal(&mut self, text: &[u8]) -> Result<(), LineRefusal>
-        ensures value { Gives (λ _. self.new) result (or_reason WORD_FAULT (after_name (text.now ∷ []) self.old)) }
+        ensures value { Gives (λ _. self.new) result
+            (or_reason WORD_FAULT (after_name (text.now ∷ []) self.old)) }
     {
         let word = self.word()?;
         if word == text {
@@ -91,7 +97,7 @@ impl<'a> LineWords<'a> {
     }
 
     /// The kind of line that the words name.
-    #[tactic(auto, unfolding(script_spec::specs::Reading::line_at, script_spec::specs::Reading::line_named, script_spec::specs::Reading::word_at))]
+    #[tactic(auto, unfolding(script_spec::specs::Reading::line_named))]
     pub(crate) fn line(&mut self) -> Result<Line, LineRefusal>
         ensures value { Gives (λ line. (line, self.new)) result (line_at self.old) }
     {
@@ -103,6 +109,8 @@ impl<'a> LineWords<'a> {
             b"create" => Ok(Line::Create),
             b"set" => Ok(Line::Set),
             b"delete" => Ok(Line::Delete),
+            b"resync" => Ok(Line::Resync),
+            b"check" => Ok(Line::Check),
             b"deliver" => Ok(Line::Deliver),
             b"flow" => Ok(Line::Flow),
             b"noise" => self.end(Line::NoiseUnit, Line::NoiseOlt),
@@ -114,9 +122,9 @@ impl<'a> LineWords<'a> {
     }
 
     /// One of two kinds of line, by the end of the channel that a word names.
-    #[tactic(auto, unfolding(script_spec::specs::Reading::word_at))]
     fn end(&mut self, unit: Line, olt: Line) -> Result<Line, LineRefusal>
-        ensures value { Gives (λ line. (line, self.new)) result (or_reason WORD_FAULT (end_named unit olt self.old)) }
+        ensures value { Gives (λ line. (line, self.new)) result
+            (or_reason WORD_FAULT (end_named unit olt self.old)) }
     {
         let word = self.word()?;
         match word {
@@ -127,9 +135,10 @@ impl<'a> LineWords<'a> {
     }
 
     /// The name of a lane.
-    #[tactic(auto, unfolding(script_spec::specs::Reading::field_at, script_spec::specs::Reading::word_value))]
+    #[tactic(auto, unfolding(script_spec::specs::Reading::field_at))]
     pub(crate) fn lane(&mut self) -> Result<Priority, LineRefusal>
-        ensures value { Gives (λ lane. (LaneSaid lane, self.new)) result (field_at LaneName self.old) }
+        ensures value { Gives (λ lane. (LaneSaid lane, self.new)) result
+            (field_at LaneName self.old) }
     {
         let word = self.word()?;
         match word {
@@ -140,9 +149,10 @@ impl<'a> LineWords<'a> {
     }
 
     /// A decimal number within its bounds.
-    #[tactic(auto, unfolding(script_spec::specs::Reading::field_at, script_spec::specs::Reading::word_value))]
+    #[tactic(auto, unfolding(script_spec::specs::Reading::field_at))]
     pub(crate) fn number(&mut self, lowest: u64, highest: u64) -> Result<u64, LineRefusal>
-        ensures value { Gives (λ number. (NumberSaid number, self.new)) result (field_at (Decimal lowest highest) self.old) }
+        ensures value { Gives (λ number. (NumberSaid number, self.new)) result
+            (field_at (Decimal lowest highest) self.old) }
         ensures low { IfOk result (λ number. lowest ≤ number) }
         ensures high { IfOk result (λ number. number ≤ highest) }
     {
@@ -155,45 +165,50 @@ impl<'a> LineWords<'a> {
 
     /// A class, or an instance.
     pub(crate) fn id(&mut self) -> Result<u16, LineRefusal>
-        ensures value { Gives (λ number. (NumberSaid number, self.new)) result (field_at (Decimal 0 MAX_ID) self.old) }
+        ensures value { Gives (λ number. (NumberSaid number, self.new)) result
+            (field_at (Decimal 0 MAX_ID) self.old) }
     {
         Ok(self.number(0, MAX_ID)? as u16)
     }
 
     /// The first number of a lane.
     pub(crate) fn lane_number(&mut self) -> Result<u16, LineRefusal>
-        ensures value { Gives (λ number. (NumberSaid number, self.new)) result (field_at (Decimal 1 LAST_NUMBER) self.old) }
+        ensures value { Gives (λ number. (NumberSaid number, self.new)) result
+            (field_at (Decimal 1 LAST_NUMBER) self.old) }
     {
-        Ok(self.number(1, LAST_NUMBER)? as u16)
+        Ok(self.number(1, u64::from(LAST_NUMBER))? as u16)
     }
 
     /// A mask of exactly four hex digits.
-    #[tactic(auto, unfolding(script_spec::specs::Reading::field_at, script_spec::specs::Reading::word_value))]
+    #[tactic(auto, unfolding(script_spec::specs::Reading::field_at))]
     pub(crate) fn mask(&mut self) -> Result<u16, LineRefusal>
-        ensures value { Gives (λ mask. (NumberSaid mask, self.new)) result (field_at MaskDigits self.old) }
+        ensures value { Gives (λ mask. (NumberSaid mask, self.new)) result
+            (field_at MaskDigits self.old) }
     {
         let word = self.word()?;
         mask_of(word).ok_or(LineRefusal::HEX)
     }
 
     /// Bytes in hex, of a number within its bounds.
-    #[tactic(auto, unfolding(script_spec::specs::Reading::field_at, script_spec::specs::Reading::word_value))]
+    #[tactic(auto, unfolding(script_spec::specs::Reading::field_at))]
     pub(crate) fn bytes(
         &mut self,
         alloc: Global,
         fewest: usize,
         most: usize,
     ) -> Result<Bytes, LineRefusal>
-        ensures value { Gives (λ bytes. (BytesSaid bytes, self.new)) result (field_at (HexBytes fewest most) self.old) }
+        ensures value { Gives (λ bytes. (BytesSaid bytes, self.new)) result
+            (field_at (HexBytes fewest most) self.old) }
     {
         let word = self.word()?;
         bytes_of(alloc, fewest, most, word)
     }
 
     /// Bytes in hex that don't decode as a frame.
-    #[tactic(auto, unfolding(script_spec::specs::Reading::field_at, script_spec::specs::Reading::word_value))]
+    #[tactic(auto, unfolding(script_spec::specs::Reading::field_at))]
     pub(crate) fn noise(&mut self, alloc: Global) -> Result<Bytes, LineRefusal>
-        ensures value { Gives (λ bytes. (BytesSaid bytes, self.new)) result (field_at (NoiseBytes MAX_NOISE) self.old) }
+        ensures value { Gives (λ bytes. (BytesSaid bytes, self.new)) result
+            (field_at (NoiseBytes MAX_NOISE) self.old) }
     {
         let word = self.word()?;
         noise_of(alloc, MAX_NOISE, word)
@@ -261,7 +276,8 @@ fn mask_of(word: &[u8]) -> Option<u16>
 
 /// Bytes in hex, of a number within its bounds.
 fn bytes_of(alloc: Global, fewest: usize, most: usize, word: &[u8]) -> Result<Bytes, LineRefusal>
-    ensures value { Gives (λ bytes. bytes) result (or_reason HEX_FAULT (bytes_of fewest most word.now)) }
+    ensures value { Gives (λ bytes. bytes) result
+        (or_reason HEX_FAULT (bytes_of fewest most word.now)) }
 {
     let bytes = hex_bytes(alloc, word)?;
     if bytes.len() < fewest || bytes.len() > most {

@@ -1,43 +1,57 @@
--- What a word says in a field of each form, what the grammar says of the word, and which words have a fault there.
-use Rattle.std.proofs.Common.{◌≡◌, ◌≢◌, ℕ, ◌+◌, ◌*◌, ◌/◌, ◌%◌, ◌<◌, ◌≤◌, ◌==◌, ◌&&◌, ◌||◌, not, nat_le, Bool, true, false, cond, List, [], ◌∷◌, length, Option, Some, None, Result, Ok, Err, refl, sym, ap, ◌∙◌, subst, arith}
+-- What a word says in a field of each form, what the grammar says of the word, and which words have
+-- a fault there.
+use Rattle.std.proofs.Common.{◌≡◌, ◌≢◌, ℕ, ◌+◌, ◌*◌, ◌/◌, ◌%◌, ◌<◌, ◌≤◌, ◌==◌, ◌&&◌, ◌||◌, not}
+use Rattle.std.proofs.Common.{nat_le, Bool, true, false, cond, List, [], ◌∷◌, length, Option, Some}
+use Rattle.std.proofs.Common.{None, Result, Ok, Err, refl, sym, ap, ◌∙◌, subst, arith}
 use Rattle.std.specs.Prelude.{codes, slice_index, is_some, unwrap_or}
 use Rattle.std.specs.List.{AllPass, list_all}
 use Rattle.std.specs.Char.{is_ascii_digit}
 use Rattle.std.specs.Str.{bytes_eq}
 use Rattle.std.specs.Result.{result_err}
-use Rattle.std.proofs.lemmas.Bool.{and_parts, and_from, leb-true, le-leb, eqb-true, eq-eqb, eqb-false, ne_eqb, false_from_ne_true, false≢true}
+use Rattle.std.proofs.lemmas.Bool.{and_parts, and_from, leb-true, le-leb, eqb-true, eq-eqb}
+use Rattle.std.proofs.lemmas.Bool.{eqb-false, ne_eqb, false_from_ne_true, false≢true}
 use Rattle.std.proofs.lemmas.Slice.Eq.{bytes_eq-Decides}
-use Rattle.std.proofs.lemmas.List.Elements.{All-nil, All-cons, All-head, All-tail, All-weaker, All-from_get_or}
+use Rattle.std.proofs.lemmas.List.Elements.{All-nil, All-cons, All-head, All-tail, All-weaker}
+use Rattle.std.proofs.lemmas.List.Elements.{All-from_get_or}
 use Rattle.hex.specs.Hex.{decode_of, decode_sized, is_hex_digit}
 use Rattle.hex.specs.declared.error.FromHexError.{FromHexError}
-use Rattle.hex.proofs.HexLemmas.{decode_of-ok, decode_of-digits, decode_sized-ok, decode_sized-twice}
+use Rattle.hex.proofs.HexLemmas.{decode_of-ok, decode_of-digits, decode_sized-ok}
+use Rattle.hex.proofs.HexLemmas.{decode_sized-twice}
 use Rattle.omci_types.specs.declared.Priority.{Priority}
 use Rattle.omci_types.specs.declared.Priority.TheVariants.{Low, High}
 use Rattle.frame_spec.specs.declared.FrameFault.{FrameFault}
 use Rattle.frame_spec.specs.Baseline.{fault_of}
-use Rattle.script_spec.specs.declared.TheConstants.{MAX_DIGITS, MAX_MASK, WORD_FAULT, NUMBER_FAULT, HEX_FAULT, NOISE_FAULT}
-use Rattle.script_spec.specs.Fields.{Value, Lane, Number, Bytes, lane_in, number_in, bytes_in, Form, LaneName, Decimal, MaskDigits, HexBytes, NoiseBytes, Fits, AreBytes, IsNoise}
-use Rattle.script_spec.specs.Text.{lane_text, is_numeral, is_number, decimal_value, decoded, hex_bytes, mask_value, mask_of}
+use Rattle.script_spec.specs.declared.TheConstants.{MAX_DIGITS, MAX_MASK, WORD_FAULT, NUMBER_FAULT}
+use Rattle.script_spec.specs.declared.TheConstants.{HEX_FAULT, NOISE_FAULT}
+use Rattle.script_spec.specs.Fields.{Value, Lane, Number, Bytes, lane_in, number_in, bytes_in, Form}
+use Rattle.script_spec.specs.Fields.{LaneName, Decimal, MaskDigits, HexBytes, NoiseBytes, Fits}
+use Rattle.script_spec.specs.Fields.{AreBytes, IsNoise}
+use Rattle.script_spec.specs.Text.{lane_text, is_numeral, is_number, decimal_value, decoded}
+use Rattle.script_spec.specs.Text.{hex_bytes, mask_value, mask_of}
 use Rattle.script_spec.specs.Grammar.{SpellsNumber, SpellsMask, SpellsBytes, IsTextOf, Spells}
 use Rattle.script_spec.specs.Fault.{is_hex, is_mask, is_noise, unless, first_of, word_fault}
-use Rattle.script_spec.specs.Reading.{◌>>=◌, or_reason, lane_of, number_of, within, bytes_of, noise_with, noise_of, word_value}
+use Rattle.script_spec.specs.Reading.{◌>>=◌, or_reason, lane_of, number_of, within, bytes_of}
+use Rattle.script_spec.specs.Reading.{noise_with, noise_of, word_value}
 use Rattle.script_laws.proofs.Words.{NotSpace, IsOneWord}
 
 -- ---- steps
 
-pub bind_ok : {A B E : Type 0} (r : Result A E) (f : A → Result B E) (y : B) → (r >>= f) ≡ Ok y → (x : A) × (r ≡ Ok x) × (f x ≡ Ok y)
+pub bind_ok : {A B E : Type 0} (r : Result A E) (f : A → Result B E) (y : B) → (r >>= f) ≡ Ok y
+    → (x : A) × (r ≡ Ok x) × (f x ≡ Ok y)
 bind_ok (Ok x) f y h = (x, refl, h)
 bind_ok (Err e) f y h = cc
 
 pub ok_same : {A E : Type 0} {x y : A} → ◌≡◌ {A = Result A E} (Ok x) (Ok y) → x ≡ y
 ok_same h = cc
 
-pub or_reason_ok : {A : Type 0} (reason : ℕ) (o : Option A) (v : A) → or_reason reason o ≡ Ok v → o ≡ Some v
+pub or_reason_ok : {A : Type 0} (reason : ℕ) (o : Option A) (v : A) → or_reason reason o ≡ Ok v
+    → o ≡ Some v
 or_reason_ok reason (Some w) v h = ap Some cc
 or_reason_ok reason None v h = cc
 
 -- what a test that has passed shows
-pub chosen_some : {A : Type 0} (b : Bool) (x y : A) → cond b (Some x) None ≡ Some y → (b ≡ true) × (x ≡ y)
+pub chosen_some : {A : Type 0} (b : Bool) (x y : A) → cond b (Some x) None ≡ Some y
+    → (b ≡ true) × (x ≡ y)
 chosen_some true x y h = (refl, cc)
 chosen_some false x y h = cc
 
@@ -46,7 +60,9 @@ chosen_some false x y h = cc
 lane_spells : (word : List ℕ) (lane : Priority) → lane_of word ≡ Some lane → word ≡ lane_text lane
 lane_spells word lane h = by_low (bytes_eq word (lane_text Low)) refl h
   where
-    by_low : (b : Bool) → bytes_eq word (lane_text Low) ≡ b → cond b (Some Low) (cond (bytes_eq word (lane_text High)) (Some High) None) ≡ Some lane → word ≡ lane_text lane
+    by_low : (b : Bool) → bytes_eq word (lane_text Low) ≡ b
+        → cond b (Some Low) (cond (bytes_eq word (lane_text High)) (Some High) None) ≡ Some lane
+        → word ≡ lane_text lane
     by_low true e h =
         let same : Low ≡ lane = cc in
         (bytes_eq-Decides word (lane_text Low)).0 e ∙ ap lane_text same
@@ -60,22 +76,36 @@ lane_spelled word High h = ap lane_of h
 
 -- ---- numbers
 
-pub list_all-AllPass : {X : Type 0} (p : X → Bool) (xs : List X) → list_all p xs ≡ true → AllPass p xs
+pub list_all-AllPass : {X : Type 0} (p : X → Bool) (xs : List X) → list_all p xs ≡ true
+    → AllPass p xs
 list_all-AllPass p [] h = All-nil _
-list_all-AllPass p (x ∷ xs) h = All-cons (λ y. p y ≡ true) x xs (and_parts (p x) (list_all p xs) h).0 (list_all-AllPass p xs (and_parts (p x) (list_all p xs) h).1)
+list_all-AllPass p (x ∷ xs) h =
+    All-cons (λ y. p y ≡ true) x xs (and_parts (p x) (list_all p xs) h).0
+    (list_all-AllPass p xs (and_parts (p x) (list_all p xs) h).1)
 
-pub AllPass-list_all : {X : Type 0} (p : X → Bool) (xs : List X) → AllPass p xs → list_all p xs ≡ true
+pub AllPass-list_all : {X : Type 0} (p : X → Bool) (xs : List X) → AllPass p xs
+    → list_all p xs ≡ true
 AllPass-list_all p [] h = refl
-AllPass-list_all p (x ∷ xs) h = and_from (p x) (list_all p xs) (All-head (λ y. p y ≡ true) x xs h) (AllPass-list_all p xs (All-tail (λ y. p y ≡ true) x xs h))
+AllPass-list_all p (x ∷ xs) h =
+    and_from (p x) (list_all p xs) (All-head (λ y. p y ≡ true) x xs h)
+    (AllPass-list_all p xs (All-tail (λ y. p y ≡ true) x xs h))
 
-pub number_spells : (low high : ℕ) (word : List ℕ) (n : ℕ) → number_of low high word ≡ Some n → ((low ≤ n) × (n ≤ high)) × SpellsNumber n word
+pub number_spells : (low high : ℕ) (word : List ℕ) (n : ℕ) → number_of low high word ≡ Some n
+    → ((low ≤ n) × (n ≤ high)) × SpellsNumber n word
 number_spells low high word n h =
     let found = chosen_some (is_number low high word) (decimal_value word) n h in
-    let front = and_parts (is_numeral word && nat_le low (decimal_value word)) (nat_le (decimal_value word) high) found.0 in
+    let front =
+    and_parts (is_numeral word && nat_le low (decimal_value word))
+    (nat_le (decimal_value word) high) found.0 in
     let lower = and_parts (is_numeral word) (nat_le low (decimal_value word)) front.0 in
-    let digits = and_parts (nat_le 1 (length word) && nat_le (length word) MAX_DIGITS) (list_all is_ascii_digit word) lower.0 in
+    let digits =
+    and_parts (nat_le 1 (length word) && nat_le (length word) MAX_DIGITS)
+    (list_all is_ascii_digit word) lower.0 in
     let sizes = and_parts (nat_le 1 (length word)) (nat_le (length word) MAX_DIGITS) digits.0 in (
-      (subst (λ m. low ≤ m) found.1 (leb-true low (decimal_value word) lower.1), subst (λ m. m ≤ high) found.1 (leb-true (decimal_value word) high front.1)),
+      (
+        subst (λ m. low ≤ m) found.1 (leb-true low (decimal_value word) lower.1),
+        subst (λ m. m ≤ high) found.1 (leb-true (decimal_value word) high front.1),
+      ),
       record {
         digits = list_all-AllPass is_ascii_digit word digits.1;
         some = leb-true 1 (length word) sizes.0;
@@ -84,22 +114,32 @@ number_spells low high word n h =
       },
     )
 
-pub number_spelled : (low high : ℕ) (word : List ℕ) (n : ℕ) → ((low ≤ n) × (n ≤ high)) × SpellsNumber n word → number_of low high word ≡ Some n
+pub number_spelled : (low high : ℕ) (word : List ℕ) (n : ℕ)
+    → ((low ≤ n) × (n ≤ high)) × SpellsNumber n word → number_of low high word ≡ Some n
 number_spelled low high word n s =
-    let numeral : is_numeral word ≡ true = and_from _ _ (and_from _ _ (le-leb 1 (length word) s.1.some) (le-leb (length word) MAX_DIGITS s.1.few)) (AllPass-list_all is_ascii_digit word s.1.digits) in
-    let number : is_number low high word ≡ true = and_from _ _ (and_from _ _ numeral (le-leb low (decimal_value word) (subst (λ m. low ≤ m) (sym s.1.value) s.0.0))) (le-leb (decimal_value word) high (subst (λ m. m ≤ high) (sym s.1.value) s.0.1)) in
+    let numeral : is_numeral word ≡ true =
+    and_from _ _
+    (and_from _ _ (le-leb 1 (length word) s.1.some) (le-leb (length word) MAX_DIGITS s.1.few))
+    (AllPass-list_all is_ascii_digit word s.1.digits) in
+    let number : is_number low high word ≡ true =
+    and_from _ _
+    (and_from _ _ numeral
+    (le-leb low (decimal_value word) (subst (λ m. low ≤ m) (sym s.1.value) s.0.0)))
+    (le-leb (decimal_value word) high (subst (λ m. m ≤ high) (sym s.1.value) s.0.1)) in
     ap (λ b. cond b (Some (decimal_value word)) None) number ∙ ap Some s.1.value
 
 -- ---- masks
 
 -- two bytes, by the list of them
-two_bytes : (word bytes : List ℕ) (mask : ℕ) → decode_of word ≡ Ok bytes → length bytes ≡ 2 → slice_index bytes 0 * 256 + slice_index bytes 1 ≡ mask → SpellsMask mask word
+two_bytes : (word bytes : List ℕ) (mask : ℕ) → decode_of word ≡ Ok bytes → length bytes ≡ 2
+    → slice_index bytes 0 * 256 + slice_index bytes 1 ≡ mask → SpellsMask mask word
 two_bytes word [] mask h two e = absurd (omega arith)
 two_bytes word (a ∷ []) mask h two e = absurd (omega arith)
 two_bytes word (a ∷ b ∷ []) mask h two e = (a, b, h, sym e)
 two_bytes word (a ∷ b ∷ c ∷ bytes) mask h two e = absurd (omega arith)
 
-mask_from : (word : List ℕ) (mask : ℕ) (r : Result (List ℕ) FromHexError) → decode_sized word 2 ≡ r → mask_value (decoded r) ≡ Some mask → SpellsMask mask word
+mask_from : (word : List ℕ) (mask : ℕ) (r : Result (List ℕ) FromHexError) → decode_sized word 2 ≡ r
+    → mask_value (decoded r) ≡ Some mask → SpellsMask mask word
 mask_from word mask (Ok bytes) e h =
     let four = decode_sized-ok word 2 bytes e in
     let read : decode_of word ≡ Ok bytes = sym (decode_sized-twice word 2 four) ∙ e in
@@ -115,28 +155,36 @@ pub mask_spelled : (word : List ℕ) (mask : ℕ) → SpellsMask mask word → m
 unfolding mask_of
 mask_spelled word mask s =
     let size = (decode_of-ok word (s.0 ∷ s.1 ∷ []) s.2).2 in
-    ap (λ r. mask_value (decoded r)) (decode_sized-twice word 2 (omega (arith, size)) ∙ s.2) ∙ ap Some (sym s.3)
+    ap (λ r. mask_value (decoded r)) (decode_sized-twice word 2 (omega (arith, size)) ∙ s.2)
+    ∙ ap Some (sym s.3)
 
 -- ---- bytes
 
-none_or : {A : Type 0} (b : Bool) (rest : Option A) (x : A) → cond b None rest ≡ Some x → (b ≡ false) × (rest ≡ Some x)
+none_or : {A : Type 0} (b : Bool) (rest : Option A) (x : A) → cond b None rest ≡ Some x
+    → (b ≡ false) × (rest ≡ Some x)
 none_or true rest x h = cc
 none_or false rest x h = (refl, h)
 
-decoded_some : (r : Result (List ℕ) FromHexError) (bytes : List ℕ) → decoded r ≡ Some bytes → r ≡ Ok bytes
+decoded_some : (r : Result (List ℕ) FromHexError) (bytes : List ℕ) → decoded r ≡ Some bytes
+    → r ≡ Ok bytes
 decoded_some (Ok found) bytes h = ap Ok cc
 decoded_some (Err error) bytes h = cc
 
 -- digits that stand for bytes; none would be an empty word
-digits_spell : (word bytes : List ℕ) → (length word == 0) ≡ false → decode_of word ≡ Ok bytes → SpellsBytes bytes word
-digits_spell word [] some h = absurd (eqb-false (length word) 0 some (omega (arith, (decode_of-ok word [] h).2)))
+digits_spell : (word bytes : List ℕ) → (length word == 0) ≡ false → decode_of word ≡ Ok bytes
+    → SpellsBytes bytes word
+digits_spell word [] some h =
+    absurd (eqb-false (length word) 0 some (omega (arith, (decode_of-ok word [] h).2)))
 digits_spell word (b ∷ bytes) some h = h
 
-hex_cases : (word bytes : List ℕ) (dash : Bool) → bytes_eq word (codes "-") ≡ dash → (length word == 0) ≡ false → cond dash (Some []) (decoded (decode_of word)) ≡ Some bytes → SpellsBytes bytes word
+hex_cases : (word bytes : List ℕ) (dash : Bool) → bytes_eq word (codes "-") ≡ dash
+    → (length word == 0) ≡ false → cond dash (Some []) (decoded (decode_of word)) ≡ Some bytes
+    → SpellsBytes bytes word
 hex_cases word bytes true e some h =
     let none : [] ≡ bytes = cc in
     subst (λ bs. SpellsBytes bs word) none ((bytes_eq-Decides word (codes "-")).0 e)
-hex_cases word bytes false e some h = digits_spell word bytes some (decoded_some (decode_of word) bytes h)
+hex_cases word bytes false e some h =
+    digits_spell word bytes some (decoded_some (decode_of word) bytes h)
 
 pub hex_spells : (word bytes : List ℕ) → hex_bytes word ≡ Some bytes → SpellsBytes bytes word
 unfolding hex_bytes
@@ -154,35 +202,49 @@ pub hex_spelled : (word bytes : List ℕ) → SpellsBytes bytes word → hex_byt
 unfolding hex_bytes
 hex_spelled word [] s = ap hex_bytes s
 hex_spelled word (b ∷ bytes) s =
-    let some : (length word == 0) ≡ false = ne_eqb (length word) 0 (λ none. absurd (omega (arith, (decode_of-ok word (b ∷ bytes) s).2))) in
+    let some : (length word == 0) ≡ false =
+    ne_eqb (length word) 0
+    (λ none. absurd (omega (arith, (decode_of-ok word (b ∷ bytes) s).2))) in
     rw (some, no_dash word (b ∷ bytes) s, s) refl
 
 -- hex of these bytes, of which there are neither too few nor too many
 abbrev pub IsHexOf : ℕ → ℕ → List ℕ → List ℕ → Type 0
-IsHexOf fewest most bytes word = SpellsBytes bytes word × (fewest ≤ length bytes) × (length bytes ≤ most)
+IsHexOf fewest most bytes word =
+    SpellsBytes bytes word × (fewest ≤ length bytes) × (length bytes ≤ most)
 
-within_some : (fewest most : ℕ) (o : Option (List ℕ)) (bytes : List ℕ) → within fewest most o ≡ Some bytes → (o ≡ Some bytes) × (fewest ≤ length bytes) × (length bytes ≤ most)
+within_some : (fewest most : ℕ) (o : Option (List ℕ)) (bytes : List ℕ)
+    → within fewest most o ≡ Some bytes
+    → (o ≡ Some bytes) × (fewest ≤ length bytes) × (length bytes ≤ most)
 within_some fewest most (Some found) bytes h =
-    let is = chosen_some (nat_le fewest (length found) && nat_le (length found) most) found bytes h in
-    let sizes = and_parts (nat_le fewest (length found)) (nat_le (length found) most) is.0 in
-    (ap Some is.1, subst (λ bs. fewest ≤ length bs) is.1 (leb-true fewest (length found) sizes.0), subst (λ bs. length bs ≤ most) is.1 (leb-true (length found) most sizes.1))
+    let is =
+    chosen_some (nat_le fewest (length found) && nat_le (length found) most) found bytes h in
+    let sizes = and_parts (nat_le fewest (length found)) (nat_le (length found) most) is.0 in (
+      ap Some is.1,
+      subst (λ bs. fewest ≤ length bs) is.1 (leb-true fewest (length found) sizes.0),
+      subst (λ bs. length bs ≤ most) is.1 (leb-true (length found) most sizes.1),
+    )
 within_some fewest most None bytes h = cc
 
-pub bytes_spell : (fewest most : ℕ) (word bytes : List ℕ) → bytes_of fewest most word ≡ Some bytes → IsHexOf fewest most bytes word
+pub bytes_spell : (fewest most : ℕ) (word bytes : List ℕ) → bytes_of fewest most word ≡ Some bytes
+    → IsHexOf fewest most bytes word
 bytes_spell fewest most word bytes h =
     let found = within_some fewest most (hex_bytes word) bytes h in
     (hex_spells word bytes found.0, found.1, found.2)
 
-pub bytes_spelled : (fewest most : ℕ) (word bytes : List ℕ) → IsHexOf fewest most bytes word → bytes_of fewest most word ≡ Some bytes
+pub bytes_spelled : (fewest most : ℕ) (word bytes : List ℕ) → IsHexOf fewest most bytes word
+    → bytes_of fewest most word ≡ Some bytes
 bytes_spelled fewest most word bytes s =
-    let sizes : (nat_le fewest (length bytes) && nat_le (length bytes) most) ≡ true = and_from _ _ (le-leb fewest (length bytes) s.1) (le-leb (length bytes) most s.2) in
+    let sizes : (nat_le fewest (length bytes) && nat_le (length bytes) most) ≡ true =
+    and_from _ _ (le-leb fewest (length bytes) s.1) (le-leb (length bytes) most s.2) in
     ap (within fewest most) (hex_spelled word bytes s.0) ∙ ap (λ b. cond b (Some bytes) None) sizes
 
-pub bytes_range : (most : ℕ) (bytes word : List ℕ) → SpellsBytes bytes word → length bytes ≤ most → AreBytes most bytes
+pub bytes_range : (most : ℕ) (bytes word : List ℕ) → SpellsBytes bytes word → length bytes ≤ most
+    → AreBytes most bytes
 bytes_range most [] word s few = record { few = few; bytes = All-nil (λ b. b < 256) }
 bytes_range most (b ∷ bytes) word s few = record {
   few = few;
-  bytes = All-from_get_or (λ b. b < 256) (b ∷ bytes) 0 (λ i lt. (decode_of-ok word (b ∷ bytes) s).3 i);
+  bytes =
+      All-from_get_or (λ b. b < 256) (b ∷ bytes) 0 (λ i lt. (decode_of-ok word (b ∷ bytes) s).3 i);
 }
 
 mask_range : (mask : ℕ) (word : List ℕ) → SpellsMask mask word → mask ≤ MAX_MASK
@@ -196,65 +258,80 @@ mask_range mask word s =
 abbrev pub IsNoiseHexOf : ℕ → List ℕ → List ℕ → Type 0
 IsNoiseHexOf most bytes word = IsHexOf 0 most bytes word × IsNoise bytes
 
-noise_with_ok : (found : Option FrameFault) (bytes noise : List ℕ) → noise_with found bytes ≡ Ok noise → (bytes ≡ noise) × (found ≢ None)
+noise_with_ok : (found : Option FrameFault) (bytes noise : List ℕ)
+    → noise_with found bytes ≡ Ok noise → (bytes ≡ noise) × (found ≢ None)
 noise_with_ok (Some fault) bytes noise h = (ok_same h, λ e. cc)
 noise_with_ok None bytes noise h = cc
 
-noise_with_fault : (found : Option FrameFault) (bytes : List ℕ) → found ≢ None → noise_with found bytes ≡ Ok bytes
+noise_with_fault : (found : Option FrameFault) (bytes : List ℕ) → found ≢ None
+    → noise_with found bytes ≡ Ok bytes
 noise_with_fault (Some fault) bytes h = refl
 noise_with_fault None bytes h = absurd (h refl)
 
-noise_spells : (most : ℕ) (word bytes : List ℕ) → noise_of most word ≡ Ok bytes → IsNoiseHexOf most bytes word
+noise_spells : (most : ℕ) (word bytes : List ℕ) → noise_of most word ≡ Ok bytes
+    → IsNoiseHexOf most bytes word
 noise_spells most word bytes h =
     let found = bind_ok (or_reason HEX_FAULT (bytes_of 0 most word)) _ bytes h in
     let noise = noise_with_ok (fault_of found.0) found.0 bytes found.2 in
     let read = or_reason_ok HEX_FAULT (bytes_of 0 most word) found.0 found.1 in
     (bytes_spell 0 most word bytes (read ∙ ap Some noise.0), subst IsNoise noise.0 noise.1)
 
-noise_spelled : (most : ℕ) (word bytes : List ℕ) → IsNoiseHexOf most bytes word → noise_of most word ≡ Ok bytes
+noise_spelled : (most : ℕ) (word bytes : List ℕ) → IsNoiseHexOf most bytes word
+    → noise_of most word ≡ Ok bytes
 noise_spelled most word bytes s =
-    ap (λ o. or_reason HEX_FAULT o >>= λ found. noise_with (fault_of found) found) (bytes_spelled 0 most word bytes s.0)
+    ap (λ o. or_reason HEX_FAULT o >>= λ found. noise_with (fault_of found) found)
+    (bytes_spelled 0 most word bytes s.0)
     ∙ noise_with_fault (fault_of bytes) bytes s.1
 
 -- ---- words of each form
 
 -- what a word says is what the grammar says of it
-pub word_spells : (form : Form) (word : List ℕ) (value : Value) → word_value form word ≡ Ok value → Spells form value word
-unfolding word_value
+pub word_spells : (form : Form) (word : List ℕ) (value : Value) → word_value form word ≡ Ok value
+    → Spells form value word
 word_spells LaneName word value h =
     let lane = bind_ok (or_reason WORD_FAULT (lane_of word)) _ value h in
     let text = lane_spells word lane.0 (or_reason_ok WORD_FAULT (lane_of word) lane.0 lane.1) in
     subst (λ v. Spells LaneName v word) (ok_same lane.2) (record { fits = tt; text = text })
 word_spells (Decimal low high) word value h =
     let n = bind_ok (or_reason NUMBER_FAULT (number_of low high word)) _ value h in
-    let s = number_spells low high word n.0 (or_reason_ok NUMBER_FAULT (number_of low high word) n.0 n.1) in
+    let s =
+    number_spells low high word n.0
+    (or_reason_ok NUMBER_FAULT (number_of low high word) n.0 n.1) in
     subst (λ v. Spells (Decimal low high) v word) (ok_same n.2) (record { fits = s.0; text = s.1 })
 word_spells MaskDigits word value h =
     let mask = bind_ok (or_reason HEX_FAULT (mask_of word)) _ value h in
     let s = mask_spells word mask.0 (or_reason_ok HEX_FAULT (mask_of word) mask.0 mask.1) in
-    subst (λ v. Spells MaskDigits v word) (ok_same mask.2) (record { fits = mask_range mask.0 word s; text = s })
+    subst (λ v. Spells MaskDigits v word) (ok_same mask.2)
+    (record { fits = mask_range mask.0 word s; text = s })
 word_spells (HexBytes fewest most) word value h =
     let bytes = bind_ok (or_reason HEX_FAULT (bytes_of fewest most word)) _ value h in
-    let s = bytes_spell fewest most word bytes.0 (or_reason_ok HEX_FAULT (bytes_of fewest most word) bytes.0 bytes.1) in
-    subst (λ v. Spells (HexBytes fewest most) v word) (ok_same bytes.2) (record { fits = (s.1, bytes_range most bytes.0 word s.0 s.2); text = s.0 })
+    let s =
+    bytes_spell fewest most word bytes.0
+    (or_reason_ok HEX_FAULT (bytes_of fewest most word) bytes.0 bytes.1) in
+    subst (λ v. Spells (HexBytes fewest most) v word) (ok_same bytes.2)
+    (record { fits = (s.1, bytes_range most bytes.0 word s.0 s.2); text = s.0 })
 word_spells (NoiseBytes most) word value h =
     let bytes = bind_ok (noise_of most word) _ value h in
     let s = noise_spells most word bytes.0 bytes.1 in
-    subst (λ v. Spells (NoiseBytes most) v word) (ok_same bytes.2) (record { fits = (s.1, bytes_range most bytes.0 word s.0.0 s.0.2); text = s.0.0 })
+    subst (λ v. Spells (NoiseBytes most) v word) (ok_same bytes.2)
+    (record { fits = (s.1, bytes_range most bytes.0 word s.0.0 s.0.2); text = s.0.0 })
 
 -- what the grammar says of a word is what it says
-pub word_spelled : (form : Form) (value : Value) (word : List ℕ) → Spells form value word → word_value form word ≡ Ok value
-unfolding word_value
+pub word_spelled : (form : Form) (value : Value) (word : List ℕ) → Spells form value word
+    → word_value form word ≡ Ok value
 word_spelled LaneName (Lane lane) word s =
     ap (λ o. or_reason WORD_FAULT o >>= λ l. Ok (Lane l)) (lane_spelled word lane s.text)
 word_spelled (Decimal low high) (Number n) word s =
-    ap (λ o. or_reason NUMBER_FAULT o >>= λ m. Ok (Number m)) (number_spelled low high word n (s.fits, s.text))
+    ap (λ o. or_reason NUMBER_FAULT o >>= λ m. Ok (Number m))
+    (number_spelled low high word n (s.fits, s.text))
 word_spelled MaskDigits (Number mask) word s =
     ap (λ o. or_reason HEX_FAULT o >>= λ m. Ok (Number m)) (mask_spelled word mask s.text)
 word_spelled (HexBytes fewest most) (Bytes bytes) word s =
-    ap (λ o. or_reason HEX_FAULT o >>= λ b. Ok (Bytes b)) (bytes_spelled fewest most word bytes (s.text, s.fits.0, s.fits.1.few))
+    ap (λ o. or_reason HEX_FAULT o >>= λ b. Ok (Bytes b))
+    (bytes_spelled fewest most word bytes (s.text, s.fits.0, s.fits.1.few))
 word_spelled (NoiseBytes most) (Bytes bytes) word s =
-    ap (λ r. r >>= λ b. Ok (Bytes b)) (noise_spelled most word bytes ((s.text, omega arith, s.fits.1.few), s.fits.0))
+    ap (λ r. r >>= λ b. Ok (Bytes b))
+    (noise_spelled most word bytes ((s.text, omega arith, s.fits.1.few), s.fits.0))
 word_spelled form value word s = absurd s.text
 
 -- a value of a form by what is in it
@@ -279,13 +356,18 @@ pub plain_by_test : (word : List ℕ) → list_all (λ b. not (b == 32)) word �
 plain_by_test [] h = All-nil NotSpace
 plain_by_test (b ∷ word) h =
     let parts = and_parts (not (b == 32)) (list_all (λ c. not (c == 32)) word) h in
-    All-cons NotSpace b word (λ e. false≢true (sym (ap (λ c. not (c == 32)) e) ∙ parts.0)) (plain_by_test word parts.1)
+    All-cons NotSpace b word (λ e. false≢true (sym (ap (λ c. not (c == 32)) e) ∙ parts.0))
+    (plain_by_test word parts.1)
 
 plain_digits : (word : List ℕ) → AllPass is_ascii_digit word → IsOneWord word
-plain_digits word digits = All-weaker (λ b. is_ascii_digit b ≡ true) NotSpace (λ b d e. false≢true (sym (ap is_ascii_digit e) ∙ d)) word digits
+plain_digits word digits =
+    All-weaker (λ b. is_ascii_digit b ≡ true) NotSpace
+    (λ b d e. false≢true (sym (ap is_ascii_digit e) ∙ d)) word digits
 
 plain_hex : (word bytes : List ℕ) → decode_of word ≡ Ok bytes → IsOneWord word
-plain_hex word bytes h = All-weaker (λ b. is_hex_digit b ≡ true) NotSpace (λ b d e. false≢true (sym (ap is_hex_digit e) ∙ d)) word (decode_of-ok word bytes h).1
+plain_hex word bytes h =
+    All-weaker (λ b. is_hex_digit b ≡ true) NotSpace
+    (λ b d e. false≢true (sym (ap is_hex_digit e) ∙ d)) word (decode_of-ok word bytes h).1
 
 plain_bytes : (bytes word : List ℕ) → SpellsBytes bytes word → IsOneWord word
 plain_bytes [] word s = subst IsOneWord (sym s) (plain_by_test (codes "-") refl)
@@ -296,7 +378,8 @@ plain_lane Low = plain_by_test (codes "low") refl
 plain_lane High = plain_by_test (codes "high") refl
 
 -- no word of a value has a space
-pub word_plain : (form : Form) (value : Value) (word : List ℕ) → IsTextOf form value word → IsOneWord word
+pub word_plain : (form : Form) (value : Value) (word : List ℕ) → IsTextOf form value word
+    → IsOneWord word
 word_plain LaneName (Lane lane) word s = subst IsOneWord (sym s) (plain_lane lane)
 word_plain (Decimal low high) (Number n) word s = plain_digits word s.digits
 word_plain MaskDigits (Number mask) word s = plain_hex word (s.0 ∷ s.1 ∷ []) s.2
@@ -307,7 +390,8 @@ word_plain form value word s = absurd s
 -- ---- faults
 
 -- a test that holds exactly where there is a value
-agree : {A : Type 0} (reason : ℕ) (b : Bool) (o : Option A) → (b ≡ true → (x : A) × (o ≡ Some x)) → ((x : A) → o ≡ Some x → b ≡ true) → unless b reason ≡ result_err (or_reason reason o)
+agree : {A : Type 0} (reason : ℕ) (b : Bool) (o : Option A) → (b ≡ true → (x : A) × (o ≡ Some x))
+    → ((x : A) → o ≡ Some x → b ≡ true) → unless b reason ≡ result_err (or_reason reason o)
 agree reason true (Some x) there back = refl
 agree reason true None there back = absurd (missing (there refl).1)
   where
@@ -319,7 +403,8 @@ agree reason false (Some x) there back = absurd (wrong (back x refl))
     wrong e = cc
 agree reason false None there back = refl
 
-chosen_agree : {A : Type 0} (reason : ℕ) (b : Bool) (x : A) → unless b reason ≡ result_err (or_reason reason (cond b (Some x) None))
+chosen_agree : {A : Type 0} (reason : ℕ) (b : Bool) (x : A)
+    → unless b reason ≡ result_err (or_reason reason (cond b (Some x) None))
 chosen_agree reason true x = refl
 chosen_agree reason false x = refl
 
@@ -330,8 +415,11 @@ mask_there word h =
     let four = eqb-true (length word) 4 parts.0 in
     let read = decode_of-digits word (omega arith) (list_all-AllPass is_hex_digit word parts.1) in
     let size = (decode_of-ok word read.0 read.1).2 in
-    let bytes = two read.0 (omega (arith, size)) in
-    (bytes.0 * 256 + bytes.1, mask_spelled word (bytes.0 * 256 + bytes.1) (bytes.0, bytes.1, read.1 ∙ ap Ok bytes.2, refl))
+    let bytes = two read.0 (omega (arith, size)) in (
+      bytes.0 * 256 + bytes.1,
+      mask_spelled word (bytes.0 * 256 + bytes.1)
+          (bytes.0, bytes.1, read.1 ∙ ap Ok bytes.2, refl),
+    )
   where
     two : (bytes : List ℕ) → length bytes ≡ 2 → (a b : ℕ) × (bytes ≡ a ∷ b ∷ [])
     two [] e = absurd (omega arith)
@@ -343,14 +431,25 @@ mask_back : (word : List ℕ) (mask : ℕ) → mask_of word ≡ Some mask → is
 mask_back word mask h =
     let s = mask_spells word mask h in
     let ok = decode_of-ok word (s.0 ∷ s.1 ∷ []) s.2 in
-    and_from _ _ (eq-eqb (length word) 4 (omega (arith, ok.2))) (AllPass-list_all is_hex_digit word ok.1)
+    and_from _ _ (eq-eqb (length word) 4 (omega (arith, ok.2)))
+    (AllPass-list_all is_hex_digit word ok.1)
 
 -- hex digits of a number of bytes within the bounds are bytes
-hex_digits_there : (fewest most : ℕ) (word : List ℕ) → (nat_le 1 (length word) && (length word % 2 == 0) && list_all is_hex_digit word && nat_le fewest (length word / 2) && nat_le (length word / 2) most) ≡ true → (bytes : List ℕ) × (bytes_of fewest most word ≡ Some bytes)
+hex_digits_there : (fewest most : ℕ) (word : List ℕ)
+    → (nat_le 1 (length word) && (length word % 2 == 0) && list_all is_hex_digit word
+    && nat_le fewest (length word / 2) && nat_le (length word / 2) most) ≡ true
+    → (bytes : List ℕ) × (bytes_of fewest most word ≡ Some bytes)
 hex_digits_there fewest most word h =
-    let p = and_parts (nat_le 1 (length word) && (length word % 2 == 0) && list_all is_hex_digit word && nat_le fewest (length word / 2)) (nat_le (length word / 2) most) h in
-    let q = and_parts (nat_le 1 (length word) && (length word % 2 == 0) && list_all is_hex_digit word) (nat_le fewest (length word / 2)) p.0 in
-    let r = and_parts (nat_le 1 (length word) && (length word % 2 == 0)) (list_all is_hex_digit word) q.0 in
+    let p =
+    and_parts
+    (nat_le 1 (length word) && (length word % 2 == 0) && list_all is_hex_digit word
+    && nat_le fewest (length word / 2)) (nat_le (length word / 2) most) h in
+    let q =
+    and_parts (nat_le 1 (length word) && (length word % 2 == 0) && list_all is_hex_digit word)
+    (nat_le fewest (length word / 2)) p.0 in
+    let r =
+    and_parts (nat_le 1 (length word) && (length word % 2 == 0))
+    (list_all is_hex_digit word) q.0 in
     let t = and_parts (nat_le 1 (length word)) (length word % 2 == 0) r.0 in
     let some = leb-true 1 (length word) t.0 in
     let even = eqb-true (length word % 2) 0 t.1 in
@@ -358,21 +457,38 @@ hex_digits_there fewest most word h =
     let size = (decode_of-ok word read.0 read.1).2 in
     let low = leb-true fewest (length word / 2) q.1 in
     let high = leb-true (length word / 2) most p.1 in
-    let bytes = spelt word read.0 read.1 some size in
-    (read.0, bytes_spelled fewest most word read.0 (bytes, omega (arith, size, low), omega (arith, size, high)))
+    let bytes = spelt word read.0 read.1 some size in (
+      read.0,
+      bytes_spelled fewest most word read.0
+          (bytes, omega (arith, size, low), omega (arith, size, high)),
+    )
   where
-    spelt : (word bytes : List ℕ) → decode_of word ≡ Ok bytes → 1 ≤ length word → length word ≡ 2 * length bytes → SpellsBytes bytes word
+    spelt : (word bytes : List ℕ) → decode_of word ≡ Ok bytes → 1 ≤ length word
+        → length word ≡ 2 * length bytes → SpellsBytes bytes word
     spelt word [] h some size = absurd (omega arith)
     spelt word (b ∷ bytes) h some size = h
 
-hex_there : (fewest most : ℕ) (word : List ℕ) → is_hex fewest most word ≡ true → (bytes : List ℕ) × (bytes_of fewest most word ≡ Some bytes)
+hex_there : (fewest most : ℕ) (word : List ℕ) → is_hex fewest most word ≡ true
+    → (bytes : List ℕ) × (bytes_of fewest most word ≡ Some bytes)
 hex_there fewest most word h = by_test (bytes_eq word (codes "-")) refl h
   where
-    by_test : (b : Bool) → bytes_eq word (codes "-") ≡ b → cond b (fewest == 0) (nat_le 1 (length word) && (length word % 2 == 0) && list_all is_hex_digit word && nat_le fewest (length word / 2) && nat_le (length word / 2) most) ≡ true → (bytes : List ℕ) × (bytes_of fewest most word ≡ Some bytes)
-    by_test true e h = ([], bytes_spelled fewest most word [] ((bytes_eq-Decides word (codes "-")).0 e, omega (arith, eqb-true fewest 0 h), omega arith))
+    by_test : (b : Bool) → bytes_eq word (codes "-") ≡ b
+        → cond b (fewest == 0)
+        (nat_le 1 (length word) && (length word % 2 == 0) && list_all is_hex_digit word
+        && nat_le fewest (length word / 2) && nat_le (length word / 2) most) ≡ true
+        → (bytes : List ℕ) × (bytes_of fewest most word ≡ Some bytes)
+    by_test true e h = (
+      [],
+      bytes_spelled fewest most word [] (
+        (bytes_eq-Decides word (codes "-")).0 e,
+        omega (arith, eqb-true fewest 0 h),
+        omega arith,
+      ),
+    )
     by_test false e h = hex_digits_there fewest most word h
 
-hex_back : (fewest most : ℕ) (word bytes : List ℕ) → bytes_of fewest most word ≡ Some bytes → is_hex fewest most word ≡ true
+hex_back : (fewest most : ℕ) (word bytes : List ℕ) → bytes_of fewest most word ≡ Some bytes
+    → is_hex fewest most word ≡ true
 hex_back fewest most word bytes h = by_bytes bytes (bytes_spell fewest most word bytes h)
   where
     by_bytes : (bytes : List ℕ) → IsHexOf fewest most bytes word → is_hex fewest most word ≡ true
@@ -382,43 +498,67 @@ hex_back fewest most word bytes h = by_bytes bytes (bytes_spell fewest most word
     by_bytes (b ∷ bytes) s =
         let ok = decode_of-ok word (b ∷ bytes) s.0 in
         let size = ok.2 in
-        let no_dash : bytes_eq word (codes "-") ≡ false = false_from_ne_true _ (λ e. absurd (omega (arith, size, ap length ((bytes_eq-Decides word (codes "-")).0 e)))) in
-        rw no_dash (and_from _ _ (and_from _ _ (and_from _ _ (and_from _ _ (le-leb 1 (length word) (omega (arith, size))) (eq-eqb (length word % 2) 0 ok.0)) (AllPass-list_all is_hex_digit word ok.1)) (le-leb fewest (length word / 2) (omega (arith, size, s.1)))) (le-leb (length word / 2) most (omega (arith, size, s.2))))
+        let no_dash : bytes_eq word (codes "-") ≡ false =
+        false_from_ne_true _
+        (λ e. absurd
+        (omega (arith, size, ap length ((bytes_eq-Decides word (codes "-")).0 e)))) in
+        rw no_dash
+        (and_from _ _
+        (and_from _ _
+        (and_from _ _
+        (and_from _ _ (le-leb 1 (length word) (omega (arith, size)))
+        (eq-eqb (length word % 2) 0 ok.0)) (AllPass-list_all is_hex_digit word ok.1))
+        (le-leb fewest (length word / 2) (omega (arith, size, s.1))))
+        (le-leb (length word / 2) most (omega (arith, size, s.2))))
 
 -- one test after another
-or_agree : {A : Type 0} (reason : ℕ) (a b : Bool) (x y : A) → unless (a || b) reason ≡ result_err (or_reason reason (cond a (Some x) (cond b (Some y) None)))
+or_agree : {A : Type 0} (reason : ℕ) (a b : Bool) (x y : A)
+    → unless (a || b) reason
+    ≡ result_err (or_reason reason (cond a (Some x) (cond b (Some y) None)))
 or_agree reason true b x y = refl
 or_agree reason false true x y = refl
 or_agree reason false false x y = refl
 
 -- hex of a number of bytes that is allowed, or else its fault, and then whether the bytes are noise
-noise_agree : (word : List ℕ) (most : ℕ) (o : Option (List ℕ)) → ((bytes : List ℕ) → o ≡ Some bytes → hex_bytes word ≡ Some bytes)
-    → first_of (result_err (or_reason HEX_FAULT o)) (unless (is_noise word) NOISE_FAULT) ≡ result_err (or_reason HEX_FAULT o >>= λ found. noise_with (fault_of found) found)
+noise_agree : (word : List ℕ) (most : ℕ) (o : Option (List ℕ))
+    → ((bytes : List ℕ) → o ≡ Some bytes → hex_bytes word ≡ Some bytes)
+    → first_of (result_err (or_reason HEX_FAULT o)) (unless (is_noise word) NOISE_FAULT)
+    ≡ result_err (or_reason HEX_FAULT o >>= λ found. noise_with (fault_of found) found)
 noise_agree word most None same = refl
 noise_agree word most (Some bytes) same =
-    ap (λ h. unless (is_some (fault_of (unwrap_or h []))) NOISE_FAULT) (same bytes refl) ∙ by_fault (fault_of bytes) bytes
+    ap (λ h. unless (is_some (fault_of (unwrap_or h []))) NOISE_FAULT) (same bytes refl)
+    ∙ by_fault (fault_of bytes) bytes
   where
-    by_fault : (found : Option FrameFault) (bytes : List ℕ) → unless (is_some found) NOISE_FAULT ≡ result_err (noise_with found bytes)
+    by_fault : (found : Option FrameFault) (bytes : List ℕ)
+        → unless (is_some found) NOISE_FAULT ≡ result_err (noise_with found bytes)
     by_fault (Some fault) bytes = refl
     by_fault None bytes = refl
 
-made_err : {A : Type 0} (r : Result A ℕ) (made : A → Value) → result_err r ≡ result_err (r >>= λ a. Ok (made a))
+made_err : {A : Type 0} (r : Result A ℕ) (made : A → Value)
+    → result_err r ≡ result_err (r >>= λ a. Ok (made a))
 made_err (Ok a) made = refl
 made_err (Err e) made = refl
 
 -- a word has a fault exactly where it says nothing
-pub word_fault-value : (form : Form) (word : List ℕ) → word_fault form word ≡ result_err (word_value form word)
-unfolding word_value
+pub word_fault-value : (form : Form) (word : List ℕ)
+    → word_fault form word ≡ result_err (word_value form word)
 word_fault-value LaneName word =
-    or_agree WORD_FAULT (bytes_eq word (lane_text Low)) (bytes_eq word (lane_text High)) Low High ∙ made_err (or_reason WORD_FAULT (lane_of word)) Lane
+    or_agree WORD_FAULT (bytes_eq word (lane_text Low)) (bytes_eq word (lane_text High)) Low High
+    ∙ made_err (or_reason WORD_FAULT (lane_of word)) Lane
 word_fault-value (Decimal low high) word =
-    chosen_agree NUMBER_FAULT (is_number low high word) (decimal_value word) ∙ made_err (or_reason NUMBER_FAULT (number_of low high word)) Number
+    chosen_agree NUMBER_FAULT (is_number low high word) (decimal_value word)
+    ∙ made_err (or_reason NUMBER_FAULT (number_of low high word)) Number
 word_fault-value MaskDigits word =
-    agree HEX_FAULT (is_mask word) (mask_of word) (mask_there word) (mask_back word) ∙ made_err (or_reason HEX_FAULT (mask_of word)) Number
+    agree HEX_FAULT (is_mask word) (mask_of word) (mask_there word) (mask_back word)
+    ∙ made_err (or_reason HEX_FAULT (mask_of word)) Number
 word_fault-value (HexBytes fewest most) word =
-    agree HEX_FAULT (is_hex fewest most word) (bytes_of fewest most word) (hex_there fewest most word) (hex_back fewest most word)
+    agree HEX_FAULT (is_hex fewest most word) (bytes_of fewest most word)
+    (hex_there fewest most word) (hex_back fewest most word)
     ∙ made_err (or_reason HEX_FAULT (bytes_of fewest most word)) Bytes
 word_fault-value (NoiseBytes most) word =
-    ap (λ o. first_of o (unless (is_noise word) NOISE_FAULT)) (agree HEX_FAULT (is_hex 0 most word) (bytes_of 0 most word) (hex_there 0 most word) (hex_back 0 most word))
-    ∙ noise_agree word most (bytes_of 0 most word) (λ bytes h. (within_some 0 most (hex_bytes word) bytes h).0)
+    ap (λ o. first_of o (unless (is_noise word) NOISE_FAULT))
+    (agree HEX_FAULT (is_hex 0 most word) (bytes_of 0 most word) (hex_there 0 most word)
+    (hex_back 0 most word))
+    ∙ noise_agree word most (bytes_of 0 most word)
+    (λ bytes h. (within_some 0 most (hex_bytes word) bytes h).0)
     ∙ made_err (noise_of most word) Bytes

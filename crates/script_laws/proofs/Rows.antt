@@ -3,12 +3,16 @@ use Rattle.std.proofs.Common.{◌≡◌, ℕ, List, [], ◌∷◌, ◌++◌, Som
 use Rattle.std.specs.Prelude.{codes}
 use Rattle.omci_types.specs.declared.Priority.TheVariants.{Low, High}
 use Rattle.frame_spec.specs.Baseline.{fault_of, trailer_at, given_check, computed_check}
-use Rattle.frame_spec.specs.Checksum.{bits_of, number_of, inverted_bit, inverted, add_to_front, generator, without_first, divide, message_bits, dividend, crc}
-use Rattle.script_spec.specs.Script.{Probe, Get, Set, Flow, NoiseUnit, NoiseOlt, Tick, CutUnit, CutOlt, StartUnit, StartOlt}
+use Rattle.frame_spec.specs.Checksum.{bits_of, number_of, inverted_bit, inverted, add_to_front}
+use Rattle.frame_spec.specs.Checksum.{generator, without_first, divide, message_bits, dividend, crc}
+use Rattle.script_spec.specs.Script.{Probe, Get, Set, Flow, NoiseUnit, NoiseOlt, Tick, CutUnit}
+use Rattle.script_spec.specs.Script.{CutOlt, StartUnit, StartOlt}
 use Rattle.script_spec.specs.Text.{lines_of, words_of, decimal_value, hex_bytes, mask_of}
 use Rattle.script_spec.specs.Fault.{fault, script_fault, events_fault, line_fault, is_header}
-use Rattle.script_spec.specs.Reading.{reading, script_reading, events_reading, event_at, line_action, line_at, line_named, word_at, word_value, field_at, action_at, header_at}
-use Rattle.script_spec.specs.Canonical.{canonical, header_text, action_text, line_text, word_text}
+use Rattle.script_spec.specs.Reading.{reading, script_reading, events_reading, event_at}
+use Rattle.script_spec.specs.Reading.{line_action, line_named}
+use Rattle.script_spec.specs.Reading.{field_at, action_at, header_at}
+use Rattle.script_spec.specs.Canonical.{canonical, line_text}
 use Rattle.std.specs.Fmt.{digits}
 use Rattle.hex.specs.Hex.{decode_pairs, encode_with}
 
@@ -19,26 +23,39 @@ line text = text ++ (10 ∷ [])
 abbrev header : List ℕ
 header = codes "omci 1 0016 1 32767 00fF" ++ (13 ∷ 10 ∷ [])
 
-reads_lines : reading (header ++ line (codes "# a note") ++ line (codes "get low 2 0 8000") ++ line [] ++ codes "flow 65536") ≡ Ok (record {
-  header = record { room = 16; low = 1; high = 32767; factory = 0 ∷ 255 ∷ [] };
-  actions = Get Low (record { class = 2; instance = 0 }) 32768 ∷ Flow 65536 ∷ [];
-})
-unfolding reading script_reading events_reading event_at line_action line_at line_named word_at word_value field_at action_at header_at lines_of words_of decimal_value hex_bytes mask_of decode_pairs
+reads_lines : reading
+    (header ++ line (codes "# a note") ++ line (codes "get low 2 0 8000") ++ line []
+    ++ codes "flow 65536") ≡ Ok (record {
+      header = record { room = 16; low = 1; high = 32767; factory = 0 ∷ 255 ∷ [] };
+      actions = Get Low (record { class = 2; instance = 0 }) 32768 ∷ Flow 65536 ∷ [];
+    })
+unfolding reading script_reading events_reading event_at line_action line_named field_at action_at
+    header_at lines_of words_of decimal_value hex_bytes mask_of decode_pairs
 reads_lines = refl
 
 -- lines of one word, of two, and of a name of two words
-reads_names : reading (header ++ line (codes "probe high") ++ line (codes "tick") ++ line (codes "cut unit") ++ line (codes "start unit") ++ line (codes "cut olt") ++ line (codes "start olt 007 32767") ++ line (codes "set high 272 5 8000 0A")) ≡ Ok (record {
-  header = record { room = 16; low = 1; high = 32767; factory = 0 ∷ 255 ∷ [] };
-  actions = Probe High ∷ Tick ∷ CutUnit ∷ StartUnit ∷ CutOlt ∷ StartOlt 7 32767 ∷ Set High (record { class = 272; instance = 5 }) 32768 (10 ∷ []) ∷ [];
-})
-unfolding reading script_reading events_reading event_at line_action line_at line_named word_at word_value field_at action_at header_at lines_of words_of decimal_value hex_bytes mask_of decode_pairs
+reads_names : reading
+    (header ++ line (codes "probe high") ++ line (codes "tick") ++ line (codes "cut unit")
+    ++ line (codes "start unit") ++ line (codes "cut olt") ++ line (codes "start olt 007 32767")
+    ++ line (codes "set high 272 5 8000 0A")) ≡ Ok (record {
+      header = record { room = 16; low = 1; high = 32767; factory = 0 ∷ 255 ∷ [] };
+      actions =
+          Probe High ∷ Tick ∷ CutUnit ∷ StartUnit ∷ CutOlt ∷ StartOlt 7 32767
+          ∷ Set High (record { class = 272; instance = 5 }) 32768 (10 ∷ []) ∷ [];
+    })
+unfolding reading script_reading events_reading event_at line_action line_named field_at action_at
+    header_at lines_of words_of decimal_value hex_bytes mask_of decode_pairs
 reads_names = refl
 
-reads_noise : reading (header ++ line (codes "noise unit 00") ++ line (codes "noise olt -")) ≡ Ok (record {
-  header = record { room = 16; low = 1; high = 32767; factory = 0 ∷ 255 ∷ [] };
-  actions = NoiseUnit (0 ∷ []) ∷ NoiseOlt [] ∷ [];
-})
-unfolding reading script_reading events_reading event_at line_action line_at line_named word_at word_value field_at action_at header_at lines_of words_of decimal_value hex_bytes mask_of decode_pairs fault_of trailer_at given_check computed_check bits_of number_of inverted_bit inverted add_to_front generator without_first divide message_bits dividend crc
+reads_noise : reading (header ++ line (codes "noise unit 00") ++ line (codes "noise olt -"))
+    ≡ Ok (record {
+      header = record { room = 16; low = 1; high = 32767; factory = 0 ∷ 255 ∷ [] };
+      actions = NoiseUnit (0 ∷ []) ∷ NoiseOlt [] ∷ [];
+    })
+unfolding reading script_reading events_reading event_at line_action line_named field_at action_at
+    header_at lines_of words_of decimal_value hex_bytes mask_of decode_pairs fault_of trailer_at
+    given_check computed_check bits_of number_of inverted_bit inverted add_to_front generator
+    without_first divide message_bits dividend crc
 reads_noise = refl
 
 no_input : fault [] ≡ Some (1, 4)
@@ -46,61 +63,86 @@ unfolding fault script_fault lines_of
 no_input = refl
 
 -- a number of two digits where four are wanted, in the third line
-short_mask : fault (header ++ line (codes "# a note") ++ line (codes "get low 2 0 80")) ≡ Some (3, 3)
-unfolding fault script_fault events_fault line_fault line_named is_header lines_of words_of decimal_value
+short_mask : fault (header ++ line (codes "# a note") ++ line (codes "get low 2 0 80"))
+    ≡ Some (3, 3)
+unfolding fault script_fault events_fault line_fault line_named is_header lines_of words_of
+    decimal_value
 short_mask = refl
 
 -- a carriage return in the middle of a line, and the words after it
 return_inside : fault (header ++ codes "flow" ++ line (13 ∷ codes " 1")) ≡ Some (2, 1)
-unfolding fault script_fault events_fault line_fault line_named is_header lines_of words_of decimal_value
+unfolding fault script_fault events_fault line_fault line_named is_header lines_of words_of
+    decimal_value
 return_inside = refl
 
 -- a carriage return at the end of the input is no part of the line's end
 return_last : fault (header ++ codes "flow 1" ++ (13 ∷ [])) ≡ Some (2, 2)
-unfolding fault script_fault events_fault line_fault line_named is_header lines_of words_of decimal_value
+unfolding fault script_fault events_fault line_fault line_named is_header lines_of words_of
+    decimal_value
 return_last = refl
 
 valid : fault (header ++ codes "create low 272 5 -") ≡ None
-unfolding fault script_fault events_fault line_fault line_named is_header lines_of words_of decimal_value
+unfolding fault script_fault events_fault line_fault line_named is_header lines_of words_of
+    decimal_value
 valid = refl
 
 -- neither end of the channel
 no_end : fault (header ++ line (codes "cut onu")) ≡ Some (2, 1)
-unfolding fault script_fault events_fault line_fault line_named is_header lines_of words_of decimal_value
+unfolding fault script_fault events_fault line_fault line_named is_header lines_of words_of
+    decimal_value
 no_end = refl
 
--- The manager's start has two numbers, the unit's has none; the count of words comes before the numbers.
-unit_with_numbers : fault (header ++ line (codes "start olt 1 1") ++ line (codes "start unit 1 1")) ≡ Some (3, 1)
-unfolding fault script_fault events_fault line_fault line_named is_header lines_of words_of decimal_value
+-- The manager's start has two numbers, the unit's has none; the count of words comes before the
+-- numbers.
+unit_with_numbers : fault (header ++ line (codes "start olt 1 1") ++ line (codes "start unit 1 1"))
+    ≡ Some (3, 1)
+unfolding fault script_fault events_fault line_fault line_named is_header lines_of words_of
+    decimal_value
 unit_with_numbers = refl
 
 olt_without_number : fault (header ++ line (codes "start olt 0")) ≡ Some (2, 1)
-unfolding fault script_fault events_fault line_fault line_named is_header lines_of words_of decimal_value
+unfolding fault script_fault events_fault line_fault line_named is_header lines_of words_of
+    decimal_value
 olt_without_number = refl
 
 olt_from_zero : fault (header ++ line (codes "start olt 1 0")) ≡ Some (2, 2)
-unfolding fault script_fault events_fault line_fault line_named is_header lines_of words_of decimal_value
+unfolding fault script_fault events_fault line_fault line_named is_header lines_of words_of
+    decimal_value
 olt_from_zero = refl
 
 -- a request to get ONU data, with its check value: noise that decodes
-whole_frame : fault (header ++ line (codes "noise unit 0001490a0002000080000000000000000000000000000000000000000000000000000000000000000000002886d7d0d6")) ≡ Some (2, 5)
-unfolding fault script_fault events_fault line_fault line_named is_header lines_of words_of decimal_value hex_bytes decode_pairs fault_of trailer_at given_check computed_check bits_of number_of inverted_bit inverted add_to_front generator without_first divide message_bits dividend crc
+whole_frame : fault (header ++ line (codes "noise unit 0001490a000200008000000000000000"
+    ++ codes "0000000000000000000000000000000000000000000000000000002886d7d0d6"))
+    ≡ Some (2, 5)
+unfolding fault script_fault events_fault line_fault line_named is_header lines_of words_of
+    decimal_value hex_bytes decode_pairs fault_of trailer_at given_check computed_check bits_of
+    number_of inverted_bit inverted add_to_front generator without_first divide message_bits
+    dividend crc
 whole_frame = refl
 
 -- the same with another last byte
-broken_frame : fault (header ++ line (codes "noise unit 0001490a0002000080000000000000000000000000000000000000000000000000000000000000000000002886d7d0d7")) ≡ None
-unfolding fault script_fault events_fault line_fault line_named is_header lines_of words_of decimal_value hex_bytes decode_pairs fault_of trailer_at given_check computed_check bits_of number_of inverted_bit inverted add_to_front generator without_first divide message_bits dividend crc
+broken_frame : fault (header ++ line (codes "noise unit 0001490a000200008000000000000000"
+    ++ codes "0000000000000000000000000000000000000000000000000000002886d7d0d7"))
+    ≡ None
+unfolding fault script_fault events_fault line_fault line_named is_header lines_of words_of
+    decimal_value hex_bytes decode_pairs fault_of trailer_at given_check computed_check bits_of
+    number_of inverted_bit inverted add_to_front generator without_first divide message_bits
+    dividend crc
 broken_frame = refl
 
 -- whole bytes come first, and then whether they decode
 half_byte : fault (header ++ line (codes "noise unit 0")) ≡ Some (2, 3)
-unfolding fault script_fault events_fault line_fault line_named is_header lines_of words_of decimal_value
+unfolding fault script_fault events_fault line_fault line_named is_header lines_of words_of
+    decimal_value
 half_byte = refl
 
 -- zeros in front are gone, hex is in lower case, and each line has its line feed
 prints_lines : canonical (record {
   header = record { room = 16; low = 1; high = 32767; factory = 0 ∷ 255 ∷ [] };
-  actions = Set High (record { class = 272; instance = 5 }) 32779 [] ∷ NoiseUnit (0xAB ∷ []) ∷ Tick ∷ StartOlt 7 32767 ∷ [];
-}) ≡ line (codes "omci 1 16 1 32767 00ff") ++ line (codes "set high 272 5 800b -") ++ line (codes "noise unit ab") ++ line (codes "tick") ++ line (codes "start olt 7 32767")
-unfolding canonical header_text action_text line_text word_text digits encode_with
+  actions =
+      Set High (record { class = 272; instance = 5 }) 32779 [] ∷ NoiseUnit (0xAB ∷ []) ∷ Tick
+      ∷ StartOlt 7 32767 ∷ [];
+}) ≡ line (codes "omci 1 16 1 32767 00ff") ++ line (codes "set high 272 5 800b -")
+    ++ line (codes "noise unit ab") ++ line (codes "tick") ++ line (codes "start olt 7 32767")
+unfolding canonical line_text digits encode_with
 prints_lines = refl

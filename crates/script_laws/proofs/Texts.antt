@@ -1,33 +1,45 @@
 -- A line's text: the words that reading finds in it, and the words of which the grammar makes it.
-use Rattle.std.proofs.Common.{◌≡◌, ℕ, true, false, List, [], ◌∷◌, ◌++◌, length, inl, inr, Ok, refl, sym, ap, ◌∙◌, subst}
+use Rattle.std.proofs.Common.{◌≡◌, ℕ, true, false, List, [], ◌∷◌, ◌++◌, length, inl, inr, Ok, refl}
+use Rattle.std.proofs.Common.{sym, ap, ◌∙◌, subst}
 use Rattle.std.specs.List.{join_with_byte}
 use Rattle.std.proofs.lemmas.Bool.{eqb-true}
 use Rattle.script_spec.specs.declared.Line.{Line}
 use Rattle.script_spec.specs.declared.TheConstants.{WORD_FAULT}
 use Rattle.script_spec.specs.Fields.{Value, Number, Bytes, number_in}
-use Rattle.script_spec.specs.Script.{Action, Row, row, said, Said, says, action_with, Header, header_name, header_row, header_values, header_with, header_size, room_field, fields_after_room, IsAction, IsHeader}
+use Rattle.script_spec.specs.Script.{Action, Row, row, said, Said, says, action_with, Header}
+use Rattle.script_spec.specs.Script.{header_name, header_row, header_values, header_with}
+use Rattle.script_spec.specs.Script.{header_size, room_field, fields_after_room, IsAction, IsHeader}
 use Rattle.script_spec.specs.Text.{words_of, after_name, is_passed_over}
-use Rattle.script_spec.specs.Grammar.{SpellEach, SpellsLine, SpellsAction, SpellsHeader, IsPassedOver}
-use Rattle.script_spec.specs.Reading.{◌>>=◌, or_reason, field_at, values_at, counted, line_named, line_at, action_at, line_action, header_at}
+use Rattle.script_spec.specs.Grammar.{SpellEach, SpellsLine, SpellsAction, SpellsHeader}
+use Rattle.script_spec.specs.Grammar.{IsPassedOver}
+use Rattle.script_spec.specs.Reading.{◌>>=◌, or_reason, field_at, values_at, counted, line_named}
+use Rattle.script_spec.specs.Reading.{line_at, action_at, line_action, header_at}
 use Rattle.script_laws.proofs.Words.{joined-words_of}
 use Rattle.script_laws.proofs.Forms.{bind_ok, ok_same, or_reason_ok}
-use Rattle.script_laws.proofs.Fields.{counted_ok, counted_again, values_spell, values_spelled, field_again, spell_length, each_fits, each_plain, all_same}
-use Rattle.script_laws.proofs.Table.{said_again, action_again, named_again, named_is, after_name-is, row_named, is_name, named_words, named_counts}
+use Rattle.script_laws.proofs.Fields.{counted_ok, counted_again, values_spell, values_spelled}
+use Rattle.script_laws.proofs.Fields.{field_again, spell_length, each_fits, each_plain, all_same}
+use Rattle.script_laws.proofs.Table.{said_again, action_again, named_again, named_is, after_name-is}
+use Rattle.script_laws.proofs.Table.{row_named, is_name, named_words, named_counts}
 
 -- ---- words of a row
 
 -- the words of a row: its name, and then those of the values
 abbrev pub SpellsWords : Row → List Value → List (List ℕ) → Type 0
-SpellsWords line values words = (rest : List (List ℕ)) × (words ≡ line.name ++ rest) × SpellEach line.fields values rest
+SpellsWords line values words =
+    (rest : List (List ℕ)) × (words ≡ line.name ++ rest) × SpellEach line.fields values rest
 
-text_of_words : (line : Row) (values : List Value) (text : List ℕ) → SpellsWords line values (words_of text) → SpellsLine line values text
-text_of_words line values text s = (s.0, sym (joined-words_of text) ∙ ap (join_with_byte 32) s.1, s.2)
+text_of_words : (line : Row) (values : List Value) (text : List ℕ)
+    → SpellsWords line values (words_of text) → SpellsLine line values text
+text_of_words line values text s =
+    (s.0, sym (joined-words_of text) ∙ ap (join_with_byte 32) s.1, s.2)
 
-words_of_text : (line : Row) (values : List Value) (text : List ℕ) → is_name line.name ≡ true → (s : SpellsLine line values text) → words_of text ≡ line.name ++ s.0
+words_of_text : (line : Row) (values : List Value) (text : List ℕ) → is_name line.name ≡ true
+    → (s : SpellsLine line values text) → words_of text ≡ line.name ++ s.0
 words_of_text line values text named s =
     ap words_of s.1 ∙ named_words line.name s.0 named (each_plain line.fields values s.0 s.2)
 
-counts : (line : Row) (values : List Value) (text : List ℕ) → is_name line.name ≡ true → SpellsLine line values text → is_passed_over text ≡ false
+counts : (line : Row) (values : List Value) (text : List ℕ) → is_name line.name ≡ true
+    → SpellsLine line values text → is_passed_over text ≡ false
 counts line values text named s = ap is_passed_over s.1 ∙ named_counts line.name s.0 named
 
 -- ---- lines of events
@@ -36,42 +48,61 @@ abbrev SaysWords : Said → List (List ℕ) → Type 0
 SaysWords s words = SpellsWords (row s.line) s.values words
 
 -- what was read after a line's name
-action_spells : (line : Line) (words : List (List ℕ)) (action : Action) → action_at line words ≡ Ok action → (values : List Value) × SpellEach (row line).fields values words × (action_with line values ≡ action)
+action_spells : (line : Line) (words : List (List ℕ)) (action : Action)
+    → action_at line words ≡ Ok action
+    → (values : List Value) × SpellEach (row line).fields values words
+    × (action_with line values ≡ action)
 unfolding action_at
 action_spells line words action h =
     let parts = bind_ok (counted (length (row line).fields) words) _ action h in
     let size = counted_ok (length (row line).fields) words parts.0 parts.1 in
-    let values = bind_ok (values_at (row line).fields parts.0) _ action parts.2 in
-    (values.0, values_spell (row line).fields words values.0 size.1 (ap (values_at (row line).fields) (sym size.0) ∙ values.1), ok_same values.2)
+    let values = bind_ok (values_at (row line).fields parts.0) _ action parts.2 in (
+      values.0,
+      values_spell (row line).fields words values.0 size.1
+          (ap (values_at (row line).fields) (sym size.0) ∙ values.1),
+      ok_same values.2,
+    )
 
-line_spells : (words : List (List ℕ)) (action : Action) → line_action words ≡ Ok action → SaysWords (said action) words
-unfolding line_action line_at
+line_spells : (words : List (List ℕ)) (action : Action) → line_action words ≡ Ok action
+    → SaysWords (said action) words
+unfolding line_action
 line_spells words action h =
     let found = bind_ok (line_at words) _ action h in
     let line = found.0.0 in
-    let named = named_is words found.0 (or_reason_ok WORD_FAULT (line_named words) found.0 found.1) in
+    let named =
+    named_is words found.0 (or_reason_ok WORD_FAULT (line_named words) found.0 found.1) in
     let a = action_spells line found.0.1 action found.2 in
     let fits = each_fits (row line).fields a.0 found.0.1 a.1 in
     let whole : SaysWords (says line a.0) words = (found.0.1, named, a.1) in
-    subst (λ (b : Action). SaysWords (said b) words) a.2 (subst (λ s. SaysWords s words) (sym (said_again line a.0 fits)) whole)
+    subst (λ (b : Action). SaysWords (said b) words) a.2
+    (subst (λ s. SaysWords s words) (sym (said_again line a.0 fits)) whole)
 
-line_spelled : (action : Action) (rest : List (List ℕ)) → SpellEach (row (said action).line).fields (said action).values rest → line_action ((row (said action).line).name ++ rest) ≡ Ok action
-unfolding line_action line_at action_at
+line_spelled : (action : Action) (rest : List (List ℕ))
+    → SpellEach (row (said action).line).fields (said action).values rest
+    → line_action ((row (said action).line).name ++ rest) ≡ Ok action
+unfolding line_action action_at
 line_spelled action rest s =
     let line = (said action).line in
     let fields = (row line).fields in
     ap (λ o. or_reason WORD_FAULT o >>= λ found. action_at found.0 found.1) (named_again line rest)
-    ∙ ap (λ r. r >>= λ parts. values_at fields parts >>= λ values. Ok (action_with line values)) (counted_again (length fields) rest (spell_length fields (said action).values rest s))
-    ∙ ap (λ r. r >>= λ values. Ok (action_with line values)) (values_spelled fields (said action).values rest s) ∙ ap Ok (action_again action)
+    ∙ ap (λ r. r >>= λ parts. values_at fields parts >>= λ values. Ok (action_with line values))
+    (counted_again (length fields) rest (spell_length fields (said action).values rest s))
+    ∙ ap (λ r. r >>= λ values. Ok (action_with line values))
+    (values_spelled fields (said action).values rest s) ∙ ap Ok (action_again action)
 
 -- what was read of a text is what the grammar says of it
-pub text_spells : (text : List ℕ) (action : Action) → line_action (words_of text) ≡ Ok action → SpellsAction action text
+pub text_spells : (text : List ℕ) (action : Action) → line_action (words_of text) ≡ Ok action
+    → SpellsAction action text
 text_spells text action h =
-    text_of_words (row (said action).line) (said action).values text (line_spells (words_of text) action h)
+    text_of_words (row (said action).line) (said action).values text
+    (line_spells (words_of text) action h)
 
-pub text_spelled : (text : List ℕ) (action : Action) → SpellsAction action text → line_action (words_of text) ≡ Ok action
+pub text_spelled : (text : List ℕ) (action : Action) → SpellsAction action text
+    → line_action (words_of text) ≡ Ok action
 text_spelled text action s =
-    ap line_action (words_of_text (row (said action).line) (said action).values text (row_named (said action).line) s) ∙ line_spelled action s.0 s.2
+    ap line_action
+    (words_of_text (row (said action).line) (said action).values text
+    (row_named (said action).line) s) ∙ line_spelled action s.0 s.2
 
 -- the values of an action's text are in their ranges
 pub text_range : (text : List ℕ) (action : Action) → SpellsAction action text → IsAction action
@@ -79,7 +110,8 @@ text_range text action s = each_fits (row (said action).line).fields (said actio
 
 -- ---- headers
 
-pub header_spells : (words : List (List ℕ)) (header : Header) → header_at words ≡ Ok header → SpellsWords (header_row header.room) (header_values header) words
+pub header_spells : (words : List (List ℕ)) (header : Header) → header_at words ≡ Ok header
+    → SpellsWords (header_row header.room) (header_values header) words
 unfolding header_at
 header_spells words header h =
     let after = bind_ok (or_reason WORD_FAULT (after_name header_name words)) _ header h in
@@ -89,33 +121,58 @@ header_spells words header h =
     let fields = fields_after_room (number_in room.0.0) in
     let values = bind_ok (values_at fields room.0.1) _ header room.2 in
     let all = room.0.0 ∷ values.0 in
-    let read : values_at (room_field ∷ fields) parts.0 ≡ Ok all = ap (λ r. r >>= λ v. values_at fields v.1 >>= λ vs. Ok (v.0 ∷ vs)) room.1 ∙ ap (λ r. r >>= λ vs. Ok (room.0.0 ∷ vs)) values.1 in
-    let each = values_spell (room_field ∷ fields) after.0 all size.1 (ap (values_at (room_field ∷ fields)) (sym size.0) ∙ read) in
-    let same = all_same (room_field ∷ fields) all (each_fits (room_field ∷ fields) all after.0 each) in
-    let named = after_name-is header_name words after.0 (or_reason_ok WORD_FAULT (after_name header_name words) after.0 after.1) in
-    subst (λ (hd : Header). SpellsWords (header_row hd.room) (header_values hd) words) (ok_same values.2) (after.0, named, subst (λ vs. SpellEach (room_field ∷ fields) vs after.0) (sym same) each)
+    let read : values_at (room_field ∷ fields) parts.0 ≡ Ok all =
+    ap (λ r. r >>= λ v. values_at fields v.1 >>= λ vs. Ok (v.0 ∷ vs)) room.1
+    ∙ ap (λ r. r >>= λ vs. Ok (room.0.0 ∷ vs)) values.1 in
+    let each =
+    values_spell (room_field ∷ fields) after.0 all size.1
+    (ap (values_at (room_field ∷ fields)) (sym size.0) ∙ read) in
+    let same =
+    all_same (room_field ∷ fields) all (each_fits (room_field ∷ fields) all after.0 each) in
+    let named =
+    after_name-is header_name words after.0
+    (or_reason_ok WORD_FAULT (after_name header_name words) after.0 after.1) in
+    subst (λ (hd : Header). SpellsWords (header_row hd.room) (header_values hd) words)
+    (ok_same values.2)
+    (after.0, named, subst (λ vs. SpellEach (room_field ∷ fields) vs after.0) (sym same) each)
 
 -- the room, and then the fields after it
-after_header : (header : Header) (words : List (List ℕ)) → SpellEach (header_row header.room).fields (header_values header) words
-    → (field_at room_field words >>= λ room. values_at (fields_after_room (number_in room.0)) room.1 >>= λ values. Ok (header_with (room.0 ∷ values))) ≡ Ok header
+after_header : (header : Header) (words : List (List ℕ))
+    → SpellEach (header_row header.room).fields (header_values header) words
+    → (field_at room_field words >>= λ room. values_at (fields_after_room (number_in room.0)) room.1
+    >>= λ values. Ok (header_with (room.0 ∷ values))) ≡ Ok header
 after_header header [] s = absurd s
 after_header header (word ∷ words) s =
-    ap (λ r. r >>= λ room. values_at (fields_after_room (number_in room.0)) room.1 >>= λ values. Ok (header_with (room.0 ∷ values))) (field_again room_field (Number header.room) word words s.0)
-    ∙ ap (λ r. r >>= λ values. Ok (header_with (Number header.room ∷ values))) (values_spelled (fields_after_room header.room) (Number header.low ∷ Number header.high ∷ Bytes header.factory ∷ []) words s.1)
+    ap (λ r. r >>= λ room. values_at (fields_after_room (number_in room.0)) room.1 >>= λ values.
+    Ok (header_with (room.0 ∷ values)))
+    (field_again room_field (Number header.room) word words s.0)
+    ∙ ap (λ r. r >>= λ values. Ok (header_with (Number header.room ∷ values)))
+    (values_spelled (fields_after_room header.room)
+    (Number header.low ∷ Number header.high ∷ Bytes header.factory ∷ []) words s.1)
 
-pub header_spelled : (header : Header) (words : List (List ℕ)) → SpellEach (header_row header.room).fields (header_values header) words → header_at (header_name ++ words) ≡ Ok header
+pub header_spelled : (header : Header) (words : List (List ℕ))
+    → SpellEach (header_row header.room).fields (header_values header) words
+    → header_at (header_name ++ words) ≡ Ok header
 unfolding header_at
 header_spelled header words s =
-    ap (λ r. r >>= λ parts. field_at room_field parts >>= λ room. values_at (fields_after_room (number_in room.0)) room.1 >>= λ values. Ok (header_with (room.0 ∷ values))) (counted_again header_size words (spell_length (header_row header.room).fields (header_values header) words s))
+    ap (λ r. r >>= λ parts. field_at room_field parts >>= λ room.
+    values_at (fields_after_room (number_in room.0)) room.1 >>= λ values.
+    Ok (header_with (room.0 ∷ values)))
+    (counted_again header_size words
+    (spell_length (header_row header.room).fields (header_values header) words s))
     ∙ after_header header words s
 
-pub text_header : (text : List ℕ) (header : Header) → header_at (words_of text) ≡ Ok header → SpellsHeader header text
+pub text_header : (text : List ℕ) (header : Header) → header_at (words_of text) ≡ Ok header
+    → SpellsHeader header text
 text_header text header h =
-    text_of_words (header_row header.room) (header_values header) text (header_spells (words_of text) header h)
+    text_of_words (header_row header.room) (header_values header) text
+    (header_spells (words_of text) header h)
 
-pub header_text : (text : List ℕ) (header : Header) → SpellsHeader header text → header_at (words_of text) ≡ Ok header
+pub header_text : (text : List ℕ) (header : Header) → SpellsHeader header text
+    → header_at (words_of text) ≡ Ok header
 header_text text header s =
-    ap header_at (words_of_text (header_row header.room) (header_values header) text refl s) ∙ header_spelled header s.0 s.2
+    ap header_at (words_of_text (header_row header.room) (header_values header) text refl s)
+    ∙ header_spelled header s.0 s.2
 
 pub header_range : (text : List ℕ) (header : Header) → SpellsHeader header text → IsHeader header
 header_range text header s =
@@ -141,9 +198,11 @@ pub passed_is : (text : List ℕ) → is_passed_over text ≡ true → IsPassedO
 passed_is [] h = inl refl
 passed_is (b ∷ text) h = inr (text, ap (λ c. c ∷ text) (eqb-true b 35 h))
 
-pub action_not_passed : (text : List ℕ) (action : Action) → SpellsAction action text → is_passed_over text ≡ false
+pub action_not_passed : (text : List ℕ) (action : Action) → SpellsAction action text
+    → is_passed_over text ≡ false
 action_not_passed text action s =
     counts (row (said action).line) (said action).values text (row_named (said action).line) s
 
-pub header_not_passed : (text : List ℕ) (header : Header) → SpellsHeader header text → is_passed_over text ≡ false
+pub header_not_passed : (text : List ℕ) (header : Header) → SpellsHeader header text
+    → is_passed_over text ≡ false
 header_not_passed text header s = counts (header_row header.room) (header_values header) text refl s

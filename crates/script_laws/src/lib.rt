@@ -11,25 +11,33 @@ ghost use Rattle.script_spec.specs.Canonical.{canonical};
 
 /// Reading gives exactly the script that the bytes write.
 pub fn reading_gives_what_is_written()
-    ensures written { (bytes : List ℕ) (script : Script) → reading bytes ≡ Ok script → Writes script bytes }
-    ensures read { (bytes : List ℕ) (script : Script) → Writes script bytes → reading bytes ≡ Ok script }
+    ensures written { (bytes : List ℕ) (script : Script) → reading bytes ≡ Ok script
+        → Writes script bytes }
+    ensures read { (bytes : List ℕ) (script : Script) → Writes script bytes
+        → reading bytes ≡ Ok script }
 {}
 
 /// Reading stops exactly at the first fault.
 pub fn reading_stops_at_the_fault()
-    ensures found { (bytes : List ℕ) (line reason : ℕ) → reading bytes ≡ Err (line, reason) → fault bytes ≡ Some (line, reason) }
-    ensures stops { (bytes : List ℕ) (line reason : ℕ) → fault bytes ≡ Some (line, reason) → reading bytes ≡ Err (line, reason) }
+    ensures found { (bytes : List ℕ) (line reason : ℕ) → reading bytes ≡ Err (line, reason)
+        → fault bytes ≡ Some (line, reason) }
+    ensures stops { (bytes : List ℕ) (line reason : ℕ) → fault bytes ≡ Some (line, reason)
+        → reading bytes ≡ Err (line, reason) }
 {}
 
 /// No bytes are written by two different scripts.
 pub fn bytes_write_one_script()
-    ensures one { (bytes : List ℕ) (script other : Script) → Writes script bytes → Writes other bytes → script ≡ other }
+    ensures one { (bytes : List ℕ) (script other : Script) → Writes script bytes
+        → Writes other bytes → script ≡ other }
 {}
 
 /// Bytes write a script, or they have a first fault, and never both.
 pub fn bytes_write_a_script_or_have_a_fault()
-    ensures either { (bytes : List ℕ) → ((script : Script) × Writes script bytes) ⊎ ((line reason : ℕ) × (fault bytes ≡ Some (line, reason))) }
-    ensures no_fault { (bytes : List ℕ) (script : Script) → Writes script bytes → fault bytes ≡ None }
+    ensures either { (bytes : List ℕ)
+        → ((script : Script) × Writes script bytes)
+        ⊎ ((line reason : ℕ) × (fault bytes ≡ Some (line, reason))) }
+    ensures no_fault { (bytes : List ℕ) (script : Script) → Writes script bytes
+        → fault bytes ≡ None }
 {}
 
 /// The numbers and bytes of a script that some bytes write lie in their ranges.

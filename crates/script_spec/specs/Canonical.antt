@@ -1,12 +1,14 @@
--- The canonical text of a script: no line that is passed over, numbers without zeros in front, hex in lower case, `-`
--- for no byte, and a line feed after each line.
+-- The canonical text of a script: no line that is passed over, numbers without zeros in front, hex
+-- in lower case, `-` for no byte, and a line feed after each line.
 use Rattle.std.specs.Prelude.{ℕ, List, [], ◌∷◌, ◌++◌, codes}
 use Rattle.std.specs.List.{flat_map, join_with_byte}
 use Rattle.std.specs.Int.{to_be_bytes, w16}
 use Rattle.std.specs.Fmt.{decimal}
 use Rattle.hex.specs.Hex.{encode_lower}
-use Rattle.script_spec.specs.Fields.{Value, lane_in, number_in, bytes_in, Form, LaneName, Decimal, MaskDigits, HexBytes, NoiseBytes}
-use Rattle.script_spec.specs.Script.{Action, Row, row, said, first_value, later_values, Header, header_row, header_values, Script}
+use Rattle.script_spec.specs.Fields.{Value, lane_in, number_in, bytes_in, Form, LaneName, Decimal}
+use Rattle.script_spec.specs.Fields.{MaskDigits, HexBytes, NoiseBytes}
+use Rattle.script_spec.specs.Script.{Action, Row, row, said, first_value, later_values, Header}
+use Rattle.script_spec.specs.Script.{header_row, header_values, Script}
 use Rattle.script_spec.specs.Text.{lane_text}
 
 abbrev pub hex_text : List ℕ → List ℕ
@@ -14,7 +16,7 @@ hex_text [] = codes "-"
 hex_text (b ∷ bytes) = encode_lower (b ∷ bytes)
 
 -- the word of a value in a field of this form
-unfoldable pub word_text : Form → Value → List ℕ
+abbrev pub word_text : Form → Value → List ℕ
 word_text LaneName value = lane_text (lane_in value)
 word_text (Decimal low high) value = decimal (number_in value)
 word_text MaskDigits value = encode_lower (to_be_bytes w16 (number_in value))
@@ -24,16 +26,17 @@ word_text (NoiseBytes most) value = hex_text (bytes_in value)
 -- each word with a space before it, and then the line feed
 abbrev pub words_text : List Form → List Value → List ℕ
 words_text [] values = 10 ∷ []
-words_text (form ∷ forms) values = 32 ∷ word_text form (first_value values) ++ words_text forms (later_values values)
+words_text (form ∷ forms) values =
+    32 ∷ word_text form (first_value values) ++ words_text forms (later_values values)
 
 -- the line of some values
 unfoldable pub line_text : Row → List Value → List ℕ
 line_text line values = join_with_byte 32 line.name ++ words_text line.fields values
 
-unfoldable pub action_text : Action → List ℕ
+abbrev pub action_text : Action → List ℕ
 action_text action = line_text (row (said action).line) (said action).values
 
-unfoldable pub header_text : Header → List ℕ
+abbrev pub header_text : Header → List ℕ
 header_text header = line_text (header_row header.room) (header_values header)
 
 unfoldable pub canonical : Script → List ℕ

@@ -1,15 +1,19 @@
 -- The first fault of bytes that are no script: the line's number, from 1, and the reason.
-use Rattle.std.specs.Prelude.{ℕ, ◌+◌, ◌/◌, ◌%◌, Bool, true, false, ◌&&◌, ◌||◌, ◌==◌, nat_le, if◌then◌else◌, List, [], ◌∷◌, length, codes, Option, Some, None, is_some, is_none, unwrap_or}
+use Rattle.std.specs.Prelude.{ℕ, ◌+◌, ◌/◌, ◌%◌, Bool, true, false, ◌&&◌, ◌||◌, ◌==◌, nat_le}
+use Rattle.std.specs.Prelude.{if◌then◌else◌, List, [], ◌∷◌, length, codes, Option, Some, None}
+use Rattle.std.specs.Prelude.{is_some, is_none, unwrap_or}
 use Rattle.std.specs.List.{list_all}
 use Rattle.std.specs.Str.{bytes_eq}
 use Rattle.hex.specs.Hex.{is_hex_digit}
 use Rattle.omci_types.specs.declared.Priority.TheVariants.{Low, High}
 use Rattle.frame_spec.specs.Baseline.{fault_of}
 use Rattle.script_spec.specs.declared.Line.{Line}
-use Rattle.script_spec.specs.declared.TheConstants.{WORD_FAULT, NUMBER_FAULT, HEX_FAULT, HEADER_FAULT, NOISE_FAULT}
+use Rattle.script_spec.specs.declared.TheConstants.{WORD_FAULT, NUMBER_FAULT, HEX_FAULT}
+use Rattle.script_spec.specs.declared.TheConstants.{HEADER_FAULT, NOISE_FAULT}
 use Rattle.script_spec.specs.Fields.{Form, LaneName, Decimal, MaskDigits, HexBytes, NoiseBytes}
 use Rattle.script_spec.specs.Script.{row, header_name, header_row}
-use Rattle.script_spec.specs.Text.{lines_of, words_of, after_name, is_passed_over, lane_text, is_number, decimal_value, hex_bytes}
+use Rattle.script_spec.specs.Text.{lines_of, words_of, after_name, is_passed_over, lane_text}
+use Rattle.script_spec.specs.Text.{is_number, decimal_value, hex_bytes}
 use Rattle.script_spec.specs.Reading.{line_named}
 
 -- ---- words
@@ -21,7 +25,8 @@ is_lane word = bytes_eq word (lane_text Low) || bytes_eq word (lane_text High)
 abbrev pub is_hex : ℕ → ℕ → List ℕ → Bool
 is_hex fewest most word =
     if bytes_eq word (codes "-") then fewest == 0
-    else nat_le 1 (length word) && (length word % 2 == 0) && list_all is_hex_digit word && nat_le fewest (length word / 2) && nat_le (length word / 2) most
+    else nat_le 1 (length word) && (length word % 2 == 0) && list_all is_hex_digit word
+    && nat_le fewest (length word / 2) && nat_le (length word / 2) most
 
 -- four hex digits in either case
 abbrev pub is_mask : List ℕ → Bool
@@ -47,20 +52,23 @@ word_fault LaneName word = unless (is_lane word) WORD_FAULT
 word_fault (Decimal low high) word = unless (is_number low high word) NUMBER_FAULT
 word_fault MaskDigits word = unless (is_mask word) HEX_FAULT
 word_fault (HexBytes fewest most) word = unless (is_hex fewest most word) HEX_FAULT
-word_fault (NoiseBytes most) word = first_of (unless (is_hex 0 most word) HEX_FAULT) (unless (is_noise word) NOISE_FAULT)
+word_fault (NoiseBytes most) word =
+    first_of (unless (is_hex 0 most word) HEX_FAULT) (unless (is_noise word) NOISE_FAULT)
 
 -- The words are tested from left to right.
 abbrev pub words_fault : List Form → List (List ℕ) → Option ℕ
 words_fault [] [] = None
 words_fault [] (word ∷ words) = Some WORD_FAULT
 words_fault (form ∷ forms) [] = Some WORD_FAULT
-words_fault (form ∷ forms) (word ∷ words) = first_of (word_fault form word) (words_fault forms words)
+words_fault (form ∷ forms) (word ∷ words) =
+    first_of (word_fault form word) (words_fault forms words)
 
 -- ---- lines
 
 -- Before the words their number is tested.
 abbrev pub counted_fault : List Form → List (List ℕ) → Option ℕ
-counted_fault forms words = if length words == length forms then words_fault forms words else Some WORD_FAULT
+counted_fault forms words =
+    if length words == length forms then words_fault forms words else Some WORD_FAULT
 
 abbrev pub named_fault : Option (Line × List (List ℕ)) → Option ℕ
 named_fault (Some found) = counted_fault (row found.0).fields found.1
@@ -72,7 +80,8 @@ line_fault words = named_fault (line_named words)
 
 -- whether the words are those of a header, after its name
 abbrev pub are_header : Option (List (List ℕ)) → Bool
-are_header (Some (room ∷ words)) = is_none (words_fault (header_row (decimal_value room)).fields (room ∷ words))
+are_header (Some (room ∷ words)) =
+    is_none (words_fault (header_row (decimal_value room)).fields (room ∷ words))
 are_header _ = false
 
 unfoldable pub is_header : List (List ℕ) → Bool
@@ -90,7 +99,8 @@ event_fault text = if is_passed_over text then None else line_fault (words_of te
 -- the first fault of lines of events, the first of which has the number `line`
 unfoldable pub events_fault : ℕ → List (List ℕ) → Option (ℕ × ℕ)
 events_fault line [] = None
-events_fault line (text ∷ texts) = first_of (at_line line (event_fault text)) (events_fault (line + 1) texts)
+events_fault line (text ∷ texts) =
+    first_of (at_line line (event_fault text)) (events_fault (line + 1) texts)
 
 -- the same where the header has not come. The header's line is missing, or it has a fault.
 unfoldable pub script_fault : ℕ → List (List ℕ) → Option (ℕ × ℕ)

@@ -1,11 +1,14 @@
 -- The grammar of scripts: which bytes write which script.
-use Rattle.std.specs.Prelude.{◌≡◌, ◌≢◌, ℕ, ◌+◌, ◌*◌, ◌≤◌, List, [], ◌∷◌, ◌++◌, length, codes, Ok, ◌⊎◌}
+use Rattle.std.specs.Prelude.{◌≡◌, ◌≢◌, ℕ, ◌+◌, ◌*◌, ◌≤◌, List, [], ◌∷◌, ◌++◌, length, codes, Ok}
+use Rattle.std.specs.Prelude.{◌⊎◌}
 use Rattle.std.specs.List.{All, AllPass, join_with_byte}
 use Rattle.std.specs.Char.{is_ascii_digit}
 use Rattle.hex.specs.Hex.{decode_of}
 use Rattle.script_spec.specs.declared.TheConstants.{MAX_DIGITS}
-use Rattle.script_spec.specs.Fields.{Value, Lane, Number, Bytes, Form, LaneName, Decimal, MaskDigits, HexBytes, NoiseBytes, Fits}
-use Rattle.script_spec.specs.Script.{Action, Row, row, said, Header, header_row, header_values, Script}
+use Rattle.script_spec.specs.Fields.{Value, Lane, Number, Bytes, Form, LaneName, Decimal}
+use Rattle.script_spec.specs.Fields.{MaskDigits, HexBytes, NoiseBytes, Fits}
+use Rattle.script_spec.specs.Script.{Action, Row, row, said, Header, header_row, header_values}
+use Rattle.script_spec.specs.Script.{Script}
 use Rattle.script_spec.specs.Text.{decimal_value, lane_text}
 
 -- ---- words
@@ -19,7 +22,8 @@ pub record SpellsNumber (n : ℕ) (word : List ℕ) : Type 0 where
 
 -- four hex digits in either case of two bytes, the high one first
 abbrev pub SpellsMask : ℕ → List ℕ → Type 0
-SpellsMask mask word = (first second : ℕ) × (decode_of word ≡ Ok (first ∷ second ∷ [])) × (mask ≡ first * 256 + second)
+SpellsMask mask word =
+    (first second : ℕ) × (decode_of word ≡ Ok (first ∷ second ∷ [])) × (mask ≡ first * 256 + second)
 
 -- hex digits in either case, two for each byte; `-` where there is no byte
 abbrev pub SpellsBytes : List ℕ → List ℕ → Type 0
@@ -43,14 +47,17 @@ pub record Spells (form : Form) (value : Value) (word : List ℕ) : Type 0 where
 -- each word stands for its value, in order
 abbrev pub SpellEach : List Form → List Value → List (List ℕ) → Type 0
 SpellEach [] [] [] = Unit {0}
-SpellEach (form ∷ forms) (value ∷ values) (word ∷ words) = Spells form value word × SpellEach forms values words
+SpellEach (form ∷ forms) (value ∷ values) (word ∷ words) =
+    Spells form value word × SpellEach forms values words
 SpellEach _ _ _ = ⊥
 
 -- ---- lines
 
 -- a text of words that are parted by single spaces: the row's own, and then those of the values
 abbrev pub SpellsLine : Row → List Value → List ℕ → Type 0
-SpellsLine line values text = (words : List (List ℕ)) × (text ≡ join_with_byte 32 (line.name ++ words)) × SpellEach line.fields values words
+SpellsLine line values text =
+    (words : List (List ℕ)) × (text ≡ join_with_byte 32 (line.name ++ words))
+    × SpellEach line.fields values words
 
 -- the line asks for the action
 abbrev pub SpellsAction : Action → List ℕ → Type 0
@@ -75,7 +82,8 @@ pub data LineEnd : Type 0 where
 -- The bytes are a text, the end of its line, and a rest. A carriage return directly before the line
 -- feed belongs to the end; the last line may lack its end.
 abbrev pub Ends : LineEnd → List ℕ → List ℕ → List ℕ → Type 0
-Ends feed bytes text rest = (bytes ≡ text ++ (10 ∷ rest)) × ((front : List ℕ) → text ≢ front ++ (13 ∷ []))
+Ends feed bytes text rest =
+    (bytes ≡ text ++ (10 ∷ rest)) × ((front : List ℕ) → text ≢ front ++ (13 ∷ []))
 Ends return_and_feed bytes text rest = bytes ≡ text ++ (13 ∷ 10 ∷ rest)
 Ends end_of_input bytes text rest = (bytes ≡ text) × (rest ≡ []) × (text ≢ [])
 
@@ -90,13 +98,20 @@ pub record BeginsWithLine (bytes text rest : List ℕ) : Type 0 where
 -- lines that are passed over, and one line for each action
 pub data WritesActions : List Action → List ℕ → Type 0 where
   no_line : WritesActions [] []
-  passed_line : (text bytes rest : List ℕ) (actions : List Action) → BeginsWithLine bytes text rest → IsPassedOver text → WritesActions actions rest → WritesActions actions bytes
-  action_line : (text bytes rest : List ℕ) (action : Action) (actions : List Action) → BeginsWithLine bytes text rest → SpellsAction action text → WritesActions actions rest → WritesActions (action ∷ actions) bytes
+  passed_line : (text bytes rest : List ℕ) (actions : List Action) → BeginsWithLine bytes text rest
+      → IsPassedOver text → WritesActions actions rest → WritesActions actions bytes
+  action_line : (text bytes rest : List ℕ) (action : Action) (actions : List Action)
+      → BeginsWithLine bytes text rest → SpellsAction action text → WritesActions actions rest
+      → WritesActions (action ∷ actions) bytes
 
 -- lines that are passed over, the header's line, and the actions
 pub data WritesScript : Header → List Action → List ℕ → Type 0 where
-  passed_before : (text bytes rest : List ℕ) (header : Header) (actions : List Action) → BeginsWithLine bytes text rest → IsPassedOver text → WritesScript header actions rest → WritesScript header actions bytes
-  header_line : (text bytes rest : List ℕ) (header : Header) (actions : List Action) → BeginsWithLine bytes text rest → SpellsHeader header text → WritesActions actions rest → WritesScript header actions bytes
+  passed_before : (text bytes rest : List ℕ) (header : Header) (actions : List Action)
+      → BeginsWithLine bytes text rest → IsPassedOver text → WritesScript header actions rest
+      → WritesScript header actions bytes
+  header_line : (text bytes rest : List ℕ) (header : Header) (actions : List Action)
+      → BeginsWithLine bytes text rest → SpellsHeader header text → WritesActions actions rest
+      → WritesScript header actions bytes
 
 -- the bytes are a text of this script
 abbrev pub Writes : Script → List ℕ → Type 0

@@ -1,15 +1,21 @@
 -- Reading a script from left to right: what it says, or its first fault by line and reason.
-use Rattle.std.specs.Prelude.{ℕ, ◌+◌, ◌&&◌, ◌==◌, nat_le, if◌then◌else◌, List, [], ◌∷◌, length, Option, Some, None, Result, Ok, Err}
+use Rattle.std.specs.Prelude.{ℕ, ◌+◌, ◌&&◌, ◌==◌, nat_le, if◌then◌else◌, List, [], ◌∷◌, length}
+use Rattle.std.specs.Prelude.{Option, Some, None, Result, Ok, Err}
 use Rattle.std.specs.Str.{bytes_eq}
 use Rattle.omci_types.specs.declared.Priority.{Priority}
 use Rattle.omci_types.specs.declared.Priority.TheVariants.{Low, High}
 use Rattle.frame_spec.specs.declared.FrameFault.{FrameFault}
 use Rattle.frame_spec.specs.Baseline.{fault_of}
 use Rattle.script_spec.specs.declared.Line.{Line}
-use Rattle.script_spec.specs.declared.TheConstants.{WORD_FAULT, NUMBER_FAULT, HEX_FAULT, HEADER_FAULT, NOISE_FAULT}
-use Rattle.script_spec.specs.Fields.{Value, Lane, Number, Bytes, number_in, Form, LaneName, Decimal, MaskDigits, HexBytes, NoiseBytes}
-use Rattle.script_spec.specs.Script.{Action, row, all_lines, action_with, Header, header_name, header_size, room_field, fields_after_room, header_with, Script}
-use Rattle.script_spec.specs.Text.{lines_of, words_of, after_name, is_passed_over, lane_text, is_number, decimal_value, hex_bytes, mask_of}
+use Rattle.script_spec.specs.declared.TheConstants.{WORD_FAULT, NUMBER_FAULT, HEX_FAULT}
+use Rattle.script_spec.specs.declared.TheConstants.{HEADER_FAULT, NOISE_FAULT}
+use Rattle.script_spec.specs.Fields.{Value, Lane, Number, Bytes, number_in, Form, LaneName, Decimal}
+use Rattle.script_spec.specs.Fields.{MaskDigits, HexBytes, NoiseBytes}
+use Rattle.script_spec.specs.Script.{Action, row, all_lines, action_with, Header, header_name}
+use Rattle.script_spec.specs.Script.{header_size, room_field, fields_after_room, header_with}
+use Rattle.script_spec.specs.Script.{Script}
+use Rattle.script_spec.specs.Text.{lines_of, words_of, after_name, is_passed_over, lane_text}
+use Rattle.script_spec.specs.Text.{is_number, decimal_value, hex_bytes, mask_of}
 
 infixl 10 ◌>>=◌
 abbrev pub ◌>>=◌ : {A B E : Type 0} → Result A E → (A → Result B E) → Result B E
@@ -19,14 +25,18 @@ abbrev pub ◌>>=◌ : {A B E : Type 0} → Result A E → (A → Result B E) �
 -- ---- words
 
 abbrev pub lane_of : List ℕ → Option Priority
-lane_of word = if bytes_eq word (lane_text Low) then Some Low else if bytes_eq word (lane_text High) then Some High else None
+lane_of word =
+    if bytes_eq word (lane_text Low) then Some Low
+    else if bytes_eq word (lane_text High) then Some High
+    else None
 
 abbrev pub number_of : ℕ → ℕ → List ℕ → Option ℕ
 number_of low high word = if is_number low high word then Some (decimal_value word) else None
 
 -- the bytes, if there are neither too few nor too many
 abbrev pub within : ℕ → ℕ → Option (List ℕ) → Option (List ℕ)
-within fewest most (Some bytes) = if nat_le fewest (length bytes) && nat_le (length bytes) most then Some bytes else None
+within fewest most (Some bytes) =
+    if nat_le fewest (length bytes) && nat_le (length bytes) most then Some bytes else None
 within fewest most None = None
 
 abbrev pub bytes_of : ℕ → ℕ → List ℕ → Option (List ℕ)
@@ -43,18 +53,21 @@ noise_with (Some fault) bytes = Ok bytes
 noise_with None bytes = Err NOISE_FAULT
 
 abbrev pub noise_of : ℕ → List ℕ → Result (List ℕ) ℕ
-noise_of most word = or_reason HEX_FAULT (bytes_of 0 most word) >>= λ bytes. noise_with (fault_of bytes) bytes
+noise_of most word =
+    or_reason HEX_FAULT (bytes_of 0 most word) >>= λ bytes. noise_with (fault_of bytes) bytes
 
 -- what a word says in a field of this form
-unfoldable pub word_value : Form → List ℕ → Result Value ℕ
+abbrev pub word_value : Form → List ℕ → Result Value ℕ
 word_value LaneName word = or_reason WORD_FAULT (lane_of word) >>= λ lane. Ok (Lane lane)
-word_value (Decimal low high) word = or_reason NUMBER_FAULT (number_of low high word) >>= λ n. Ok (Number n)
+word_value (Decimal low high) word =
+    or_reason NUMBER_FAULT (number_of low high word) >>= λ n. Ok (Number n)
 word_value MaskDigits word = or_reason HEX_FAULT (mask_of word) >>= λ mask. Ok (Number mask)
-word_value (HexBytes fewest most) word = or_reason HEX_FAULT (bytes_of fewest most word) >>= λ bytes. Ok (Bytes bytes)
+word_value (HexBytes fewest most) word =
+    or_reason HEX_FAULT (bytes_of fewest most word) >>= λ bytes. Ok (Bytes bytes)
 word_value (NoiseBytes most) word = noise_of most word >>= λ bytes. Ok (Bytes bytes)
 
 -- the first word, and the words after it
-unfoldable pub word_at : List (List ℕ) → Result (List ℕ × List (List ℕ)) ℕ
+abbrev pub word_at : List (List ℕ) → Result (List ℕ × List (List ℕ)) ℕ
 word_at [] = Err WORD_FAULT
 word_at (word ∷ words) = Ok (word, words)
 
@@ -80,19 +93,21 @@ abbrev pub counted : ℕ → List (List ℕ) → Result (List (List ℕ)) ℕ
 counted count words = if length words == count then Ok words else Err WORD_FAULT
 
 -- a kind of line whose name has these words after it, or else one of the others
-abbrev pub or_among : Line → Option (List (List ℕ)) → Option (Line × List (List ℕ)) → Option (Line × List (List ℕ))
+abbrev pub or_among : Line → Option (List (List ℕ)) → Option (Line × List (List ℕ))
+    → Option (Line × List (List ℕ))
 or_among line (Some words) others = Some (line, words)
 or_among line None others = others
 
 -- the first of some kinds of lines whose name the words begin with, and the words after it
 abbrev pub named_among : List Line → List (List ℕ) → Option (Line × List (List ℕ))
 named_among [] words = None
-named_among (line ∷ lines) words = or_among line (after_name (row line).name words) (named_among lines words)
+named_among (line ∷ lines) words =
+    or_among line (after_name (row line).name words) (named_among lines words)
 
 unfoldable pub line_named : List (List ℕ) → Option (Line × List (List ℕ))
 line_named words = named_among all_lines words
 
-unfoldable pub line_at : List (List ℕ) → Result (Line × List (List ℕ)) ℕ
+abbrev pub line_at : List (List ℕ) → Result (Line × List (List ℕ)) ℕ
 line_at words = or_reason WORD_FAULT (line_named words)
 
 -- what the words after a line's name ask for
@@ -134,7 +149,9 @@ with_action (Some action) actions = action ∷ actions
 
 -- what an event's line asks for; a line that is passed over asks for nothing
 unfoldable pub event_at : List ℕ → Result (Option Action) ℕ
-event_at text = if is_passed_over text then Ok None else line_action (words_of text) >>= λ action. Ok (Some action)
+event_at text =
+    if is_passed_over text then Ok None
+    else line_action (words_of text) >>= λ action. Ok (Some action)
 
 -- the actions of lines of events, the first of which has the number `line`
 unfoldable pub events_reading : ℕ → List (List ℕ) → Result (List Action) (ℕ × ℕ)
@@ -146,7 +163,8 @@ events_reading line (text ∷ texts) = do
 
 -- a header and its actions
 abbrev pub script_with : ℕ → List (List ℕ) → Header → Result Script (ℕ × ℕ)
-script_with line texts header = events_reading line texts >>= λ actions. Ok (record { header = header; actions = actions })
+script_with line texts header =
+    events_reading line texts >>= λ actions. Ok (record { header = header; actions = actions })
 
 -- the same where the header has not come
 unfoldable pub script_reading : ℕ → List (List ℕ) → Result Script (ℕ × ℕ)

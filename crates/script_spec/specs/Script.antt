@@ -4,10 +4,14 @@ use Rattle.std.specs.Prelude.{◌≤◌, ℕ, zero, suc, List, [], ◌∷◌, le
 use Rattle.std.specs.List.{All}
 use Rattle.omci_types.specs.declared.Priority.{Priority}
 use Rattle.omci_types.specs.declared.EntityId.{EntityId}
-use Rattle.script_spec.specs.declared.TheConstants.{LAST_PACKET, MAX_ID, MAX_CREATE, MAX_SET, MAX_FLOW, MAX_NOISE, LAST_NUMBER, MAX_ROOM}
+use Rattle.frame_spec.specs.declared.TheConstants.{LAST_NUMBER}
+use Rattle.script_spec.specs.declared.TheConstants.{LAST_PACKET, MAX_ID, MAX_CREATE, MAX_SET}
+use Rattle.script_spec.specs.declared.TheConstants.{MAX_FLOW, MAX_NOISE, MAX_ROOM}
 use Rattle.script_spec.specs.declared.Line.{Line}
 use Rattle.script_spec.specs.declared.Line.TheVariants as lines
-use Rattle.script_spec.specs.Fields.{Value, Lane, Number, Bytes, lane_in, number_in, bytes_in, Form, LaneName, Decimal, MaskDigits, HexBytes, NoiseBytes, AreBytes, AllFit}
+use Rattle.script_spec.specs.Fields.{Value, Lane, Number, Bytes, lane_in, number_in, bytes_in, Form}
+use Rattle.script_spec.specs.Fields.{LaneName, Decimal, MaskDigits, HexBytes, NoiseBytes, AreBytes}
+use Rattle.script_spec.specs.Fields.{AllFit}
 
 -- What one line of a script asks for. Bytes are kept as they were written, not filled.
 pub data Action : Type 0 where
@@ -18,6 +22,9 @@ pub data Action : Type 0 where
   Create : Priority → EntityId → List ℕ → Action
   Set : Priority → EntityId → ℕ → List ℕ → Action
   Delete : Priority → EntityId → Action
+  -- the manager's resynchronisation, and its comparison of both counters
+  Resync : Action
+  Check : Action
   -- the link
   Deliver : ℕ → Action
   Flow : ℕ → Action
@@ -56,6 +63,8 @@ row lines.Get = line (codes "get" ∷ []) (LaneName ∷ id ∷ id ∷ MaskDigits
 row lines.Create = line (codes "create" ∷ []) (LaneName ∷ id ∷ id ∷ HexBytes 0 MAX_CREATE ∷ [])
 row lines.Set = line (codes "set" ∷ []) (LaneName ∷ id ∷ id ∷ MaskDigits ∷ HexBytes 0 MAX_SET ∷ [])
 row lines.Delete = line (codes "delete" ∷ []) (LaneName ∷ id ∷ id ∷ [])
+row lines.Resync = line (codes "resync" ∷ []) []
+row lines.Check = line (codes "check" ∷ []) []
 row lines.Deliver = line (codes "deliver" ∷ []) (Decimal 0 LAST_PACKET ∷ [])
 row lines.Flow = line (codes "flow" ∷ []) (Decimal 1 MAX_FLOW ∷ [])
 row lines.NoiseUnit = line (codes "noise" ∷ codes "unit" ∷ []) (NoiseBytes MAX_NOISE ∷ [])
@@ -69,8 +78,9 @@ row lines.StartOlt = line (codes "start" ∷ codes "olt" ∷ []) (lane_number �
 -- all the kinds of lines
 abbrev pub all_lines : List Line
 all_lines =
-    lines.Probe ∷ lines.Reset ∷ lines.Get ∷ lines.Create ∷ lines.Set ∷ lines.Delete ∷ lines.Deliver ∷ lines.Flow
-    ∷ lines.NoiseUnit ∷ lines.NoiseOlt ∷ lines.Tick ∷ lines.CutUnit ∷ lines.CutOlt ∷ lines.StartUnit ∷ lines.StartOlt ∷ []
+    lines.Probe ∷ lines.Reset ∷ lines.Get ∷ lines.Create ∷ lines.Set ∷ lines.Delete
+    ∷ lines.Resync ∷ lines.Check ∷ lines.Deliver ∷ lines.Flow ∷ lines.NoiseUnit ∷ lines.NoiseOlt
+    ∷ lines.Tick ∷ lines.CutUnit ∷ lines.CutOlt ∷ lines.StartUnit ∷ lines.StartOlt ∷ []
 
 -- ---- an action and its line
 
@@ -86,10 +96,17 @@ says line values = record { line = line; values = values }
 abbrev pub said : Action → Said
 said (Probe lane) = says lines.Probe (Lane lane ∷ [])
 said (Reset lane) = says lines.Reset (Lane lane ∷ [])
-said (Get lane entity mask) = says lines.Get (Lane lane ∷ Number entity.class ∷ Number entity.instance ∷ Number mask ∷ [])
-said (Create lane entity values) = says lines.Create (Lane lane ∷ Number entity.class ∷ Number entity.instance ∷ Bytes values ∷ [])
-said (Set lane entity mask values) = says lines.Set (Lane lane ∷ Number entity.class ∷ Number entity.instance ∷ Number mask ∷ Bytes values ∷ [])
-said (Delete lane entity) = says lines.Delete (Lane lane ∷ Number entity.class ∷ Number entity.instance ∷ [])
+said (Get lane entity mask) =
+    says lines.Get (Lane lane ∷ Number entity.class ∷ Number entity.instance ∷ Number mask ∷ [])
+said (Create lane entity values) =
+    says lines.Create (Lane lane ∷ Number entity.class ∷ Number entity.instance ∷ Bytes values ∷ [])
+said (Set lane entity mask values) =
+    says lines.Set
+    (Lane lane ∷ Number entity.class ∷ Number entity.instance ∷ Number mask ∷ Bytes values ∷ [])
+said (Delete lane entity) =
+    says lines.Delete (Lane lane ∷ Number entity.class ∷ Number entity.instance ∷ [])
+said Resync = says lines.Resync []
+said Check = says lines.Check []
 said (Deliver packet) = says lines.Deliver (Number packet ∷ [])
 said (Flow times) = says lines.Flow (Number times ∷ [])
 said (NoiseUnit bytes) = says lines.NoiseUnit (Bytes bytes ∷ [])
@@ -124,7 +141,8 @@ bytes_at place values = bytes_in (value_at place values)
 
 -- the entity whose class stands at a place, with its instance after it
 abbrev pub entity_at : ℕ → List Value → EntityId
-entity_at place values = record { class = number_at place values; instance = number_at (suc place) values }
+entity_at place values =
+    record { class = number_at place values; instance = number_at (suc place) values }
 
 -- the action of a line that says these values
 abbrev pub action_with : Line → List Value → Action
@@ -134,6 +152,8 @@ action_with lines.Get v = Get (lane_at 0 v) (entity_at 1 v) (number_at 3 v)
 action_with lines.Create v = Create (lane_at 0 v) (entity_at 1 v) (bytes_at 3 v)
 action_with lines.Set v = Set (lane_at 0 v) (entity_at 1 v) (number_at 3 v) (bytes_at 4 v)
 action_with lines.Delete v = Delete (lane_at 0 v) (entity_at 1 v)
+action_with lines.Resync v = Resync
+action_with lines.Check v = Check
 action_with lines.Deliver v = Deliver (number_at 0 v)
 action_with lines.Flow v = Flow (number_at 0 v)
 action_with lines.NoiseUnit v = NoiseUnit (bytes_at 0 v)
@@ -178,10 +198,17 @@ abbrev pub header_size : ℕ
 header_size = length (header_row 0).fields
 
 abbrev pub header_values : Header → List Value
-header_values header = Number header.room ∷ Number header.low ∷ Number header.high ∷ Bytes header.factory ∷ []
+header_values header =
+    Number header.room ∷ Number header.low ∷ Number header.high ∷ Bytes header.factory ∷ []
 
 abbrev pub header_with : List Value → Header
-header_with v = record { room = number_at 0 v; low = number_at 1 v; high = number_at 2 v; factory = bytes_at 3 v }
+header_with v =
+    record {
+      room = number_at 0 v;
+      low = number_at 1 v;
+      high = number_at 2 v;
+      factory = bytes_at 3 v;
+    }
 
 pub record Script : Type 0 where
   pub header : Header

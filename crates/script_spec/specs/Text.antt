@@ -1,5 +1,7 @@
 -- The texts of which scripts are made: words, and the numbers and bytes that words stand for.
-use Rattle.std.specs.Prelude.{ℕ, ◌+◌, ◌-◌, ◌*◌, Bool, true, ◌&&◌, nat_le, ◌==◌, if◌then◌else◌, List, [], ◌∷◌, length, slice_index, codes, Option, Some, None, Result, Ok, Err}
+use Rattle.std.specs.Prelude.{ℕ, ◌+◌, ◌-◌, ◌*◌, Bool, true, ◌&&◌, nat_le, ◌==◌, if◌then◌else◌, List}
+use Rattle.std.specs.Prelude.{[], ◌∷◌, length, slice_index, codes, Option, Some, None, Result, Ok}
+use Rattle.std.specs.Prelude.{Err}
 use Rattle.std.specs.List.{list_all, onto_first}
 use Rattle.std.specs.Char.{is_ascii_digit}
 use Rattle.std.specs.Str.{bytes_eq}
@@ -47,7 +49,8 @@ words_of (byte ∷ rest) = words_with byte (words_of rest)
 abbrev pub after_name : List (List ℕ) → List (List ℕ) → Option (List (List ℕ))
 after_name [] words = Some words
 after_name (name ∷ names) [] = None
-after_name (name ∷ names) (word ∷ words) = if bytes_eq word name then after_name names words else None
+after_name (name ∷ names) (word ∷ words) =
+    if bytes_eq word name then after_name names words else None
 
 -- ---- lanes
 
@@ -68,11 +71,13 @@ decimal_value digits = value_from 0 digits
 
 -- 1 to `MAX_DIGITS` decimal digits
 abbrev pub is_numeral : List ℕ → Bool
-is_numeral word = nat_le 1 (length word) && nat_le (length word) MAX_DIGITS && list_all is_ascii_digit word
+is_numeral word =
+    nat_le 1 (length word) && nat_le (length word) MAX_DIGITS && list_all is_ascii_digit word
 
 -- a numeral of a number from `low` to `high`
 abbrev pub is_number : ℕ → ℕ → List ℕ → Bool
-is_number low high word = is_numeral word && nat_le low (decimal_value word) && nat_le (decimal_value word) high
+is_number low high word =
+    is_numeral word && nat_le low (decimal_value word) && nat_le (decimal_value word) high
 
 -- ---- bytes
 

@@ -12,6 +12,8 @@ pub enum Line {
     Create,
     Set,
     Delete,
+    Resync,
+    Check,
     Deliver,
     Flow,
     NoiseUnit,
@@ -41,8 +43,6 @@ pub const MAX_SET: usize = 30;
 pub const MAX_FLOW: u64 = 65_536;
 /// The most bytes of a line's noise.
 pub const MAX_NOISE: usize = 4_096;
-/// The last number of a lane.
-pub const LAST_NUMBER: u64 = 32_767;
 /// The most bytes that an image slot has room for.
 pub const MAX_ROOM: u64 = 1_048_576;
 

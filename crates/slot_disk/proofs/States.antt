@@ -7,7 +7,7 @@ use Rattle.slot_spec.specs.declared.Pick.{Pick}
 use Rattle.slot_spec.specs.declared.Pick.TheVariants.{Old, New, Byte}
 use Rattle.slot_spec.specs.Crash.{Torn, field, TornFrom, Written, Moments}
 use Rattle.slot_spec.specs.Rig.{Rigged, Call, Write, Sync, with_bytes, cut_with_bytes, after_write, after_call, call_fails, after_calls, calls_fail, trap_after, trap_is_met, fuse_is_met, in_disk, Makes, pick_of, trap_after_restore, power_restored}
-use Rattle.slot_disk.specs.Memory.{MemState, IsDisk, Loose, MayLeave, cut_by, with_byte, with_marks, cut_of, rigged, after_step, after_fault, after_begin, after_finish, after_sync, holding, after_restore}
+use Rattle.slot_disk.specs.Memory.{MemState, IsDisk, Loose, MayLeave, cut_by, with_byte, with_marks, cut_of, rig_of, after_step, after_fault, after_begin, after_finish, after_sync, holding, after_restore}
 use Rattle.omci_core.specs.Memory.{one_more}
 use Rattle.slot_laws.proofs.Splice.{length-over, over_elsewhere, over_before, over_behind, over_inside, with_bytes_written}
 use Rattle.slot_laws.proofs.Calls.{one_call, one_call_fails}
@@ -107,10 +107,10 @@ pub moments_now : (old new : MemState) (P : List ℕ → Type 0) → ((image : L
 moments_now old new P here = record { later = omega arith; now = here; between = here; earlier = λ time image le left. inr (here image left) }
 
 -- one call of a disk in memory
-pub makes_one : (call : Call) (m new : MemState) (failed : Bool) → rigged new ≡ after_call call (rigged m) → failed ≡ call_fails call (rigged m) → Makes (call ∷ []) (Some (rigged m)) (Some (rigged new)) failed
+pub makes_one : (call : Call) (m new : MemState) (failed : Bool) → rig_of new ≡ after_call call (rig_of m) → failed ≡ call_fails call (rig_of m) → Makes (call ∷ []) (Some (rig_of m)) (Some (rig_of new)) failed
 makes_one call m new failed state fails = λ r is.
-    let same : rigged m ≡ r = some_same is in
-    (ap (λ (q : Rigged). Some q) (state ∙ sym (one_call call (rigged m)) ∙ ap (λ (q : Rigged). after_calls (call ∷ []) q) same), fails ∙ sym (one_call_fails call (rigged m)) ∙ ap (λ (q : Rigged). calls_fail (call ∷ []) q) same)
+    let same : rig_of m ≡ r = some_same is in
+    (ap (λ (q : Rigged). Some q) (state ∙ sym (one_call call (rig_of m)) ∙ ap (λ (q : Rigged). after_calls (call ∷ []) q) same), fails ∙ sym (one_call_fails call (rig_of m)) ∙ ap (λ (q : Rigged). calls_fail (call ∷ []) q) same)
   where
     some_same : {q r : Rigged} → Some q ≡ Some r → q ≡ r
     some_same e = cc
@@ -121,16 +121,16 @@ cut-after_begin m at from disk within New = refl
 cut-after_begin m at from disk within (Byte b) = with_byte-with_marks b at (length from) m.dirty m.settled (disk.dirty_long ∙ sym disk.settled_long) (omega (arith, within, disk.settled_long))
 
 -- what a write comes to, by what it met
-pub wrote_nothing : (m : MemState) (at : ℕ) (from : List ℕ) (faults : ℕ) (a b : Bool) → a ≡ false → b ≡ false → rigged (record m { trap = trap_after m.trap; faults = faults }) ≡ after_write at from a b (rigged m)
-wrote_nothing m at from faults a b none nor = sym (λ i. after_write at from (none i) (nor i) (rigged m))
+pub wrote_nothing : (m : MemState) (at : ℕ) (from : List ℕ) (faults : ℕ) (a b : Bool) → a ≡ false → b ≡ false → rig_of (record m { trap = trap_after m.trap; faults = faults }) ≡ after_write at from a b (rig_of m)
+wrote_nothing m at from faults a b none nor = sym (λ i. after_write at from (none i) (nor i) (rig_of m))
 
-pub wrote_begun : (m : MemState) (at : ℕ) (from : List ℕ) (faults : ℕ) (a b : Bool) → IsDisk m → at + length from ≤ length m.bytes → a ≡ false → b ≡ true → rigged (record (after_begin at from m) { trap = trap_after m.trap; faults = faults }) ≡ after_write at from a b (rigged m)
+pub wrote_begun : (m : MemState) (at : ℕ) (from : List ℕ) (faults : ℕ) (a b : Bool) → IsDisk m → at + length from ≤ length m.bytes → a ≡ false → b ≡ true → rig_of (record (after_begin at from m) { trap = trap_after m.trap; faults = faults }) ≡ after_write at from a b (rig_of m)
 wrote_begun m at from faults a b disk within none begins =
-    (λ i. record { bytes = m.bytes; cut = λ pick. cut-after_begin m at from disk within pick i; trap = trap_after m.trap }) ∙ sym (λ i. after_write at from (none i) (begins i) (rigged m))
+    (λ i. record { bytes = m.bytes; cut = λ pick. cut-after_begin m at from disk within pick i; trap = trap_after m.trap }) ∙ sym (λ i. after_write at from (none i) (begins i) (rig_of m))
 
-pub wrote_done : (m : MemState) (at : ℕ) (from : List ℕ) (a b : Bool) → IsDisk m → at + length from ≤ length m.bytes → a ≡ true → b ≡ true → rigged (record (after_finish at from (after_begin at from m)) { trap = trap_after m.trap }) ≡ after_write at from a b (rigged m)
+pub wrote_done : (m : MemState) (at : ℕ) (from : List ℕ) (a b : Bool) → IsDisk m → at + length from ≤ length m.bytes → a ≡ true → b ≡ true → rig_of (record (after_finish at from (after_begin at from m)) { trap = trap_after m.trap }) ≡ after_write at from a b (rig_of m)
 wrote_done m at from a b disk within done begins =
-    (λ i. record { bytes = with_bytes at from m.bytes; cut = λ pick. cut-after_begin m at from disk within pick i; trap = trap_after m.trap }) ∙ sym (λ i. after_write at from (done i) (begins i) (rigged m))
+    (λ i. record { bytes = with_bytes at from m.bytes; cut = λ pick. cut-after_begin m at from disk within pick i; trap = trap_after m.trap }) ∙ sym (λ i. after_write at from (done i) (begins i) (rig_of m))
 
 -- a cut of a disk on which nothing is pending
 with_byte-none : (b : ℕ) (bytes : List ℕ) (count : ℕ) → with_byte b (replicate count false) bytes ≡ bytes
@@ -143,7 +143,7 @@ cut-holding bytes m Old = refl
 cut-holding bytes m New = refl
 cut-holding bytes m (Byte b) = with_byte-none b bytes (length m.bytes)
 
-pub synced_done : (m : MemState) (s : Bool) → s ≡ false → rigged (record (after_sync m) { trap = trap_after m.trap }) ≡ record { bytes = m.bytes; cut = if s then cut_of m else (λ pick. m.bytes); trap = trap_after m.trap }
+pub synced_done : (m : MemState) (s : Bool) → s ≡ false → rig_of (record (after_sync m) { trap = trap_after m.trap }) ≡ record { bytes = m.bytes; cut = if s then cut_of m else (λ pick. m.bytes); trap = trap_after m.trap }
 synced_done m s goes = (λ i. record { bytes = m.bytes; cut = λ pick. cut-holding m.bytes m pick i; trap = trap_after m.trap }) ∙ sym (λ i. record { bytes = m.bytes; cut = if goes i then cut_of m else (λ pick. m.bytes); trap = trap_after m.trap })
 
 -- a cut after a write has after_begin is torn from the same cut before
@@ -176,8 +176,8 @@ pub settled_only : (m new : MemState) → new ≡ after_sync (after_step m) → 
 settled_only m new is image left = holding_only m.bytes (after_step m) image (subst (λ n. MayLeave n image) is left)
 
 -- the power comes back
-pub restored_rig : (m new : MemState) → new ≡ after_restore m → rigged new ≡ power_restored (rigged m)
-restored_rig m new is = ap rigged is ∙ (λ i. record { bytes = cut_of m (pick_of m.trap); cut = λ pick. cut-holding (cut_of m (pick_of m.trap)) m pick i; trap = trap_after_restore m.trap })
+pub restored_rig : (m new : MemState) → new ≡ after_restore m → rig_of new ≡ power_restored (rig_of m)
+restored_rig m new is = ap rig_of is ∙ (λ i. record { bytes = cut_of m (pick_of m.trap); cut = λ pick. cut-holding (cut_of m (pick_of m.trap)) m pick i; trap = trap_after_restore m.trap })
 
 pub restored_leaves : (m new : MemState) → new ≡ after_restore m → (image : List ℕ) → MayLeave new image → MayLeave m image
 restored_leaves m new is image left = inr (pick_of m.trap, holding_only (cut_of m (pick_of m.trap)) (record m { trap = trap_after_restore m.trap }) image (subst (λ n. MayLeave n image) is left))
@@ -196,8 +196,8 @@ module _ (m : MemState) (at : ℕ) (from : List ℕ) (disk : IsDisk m) (within :
   done_moments new is = subst (λ n. Moments (λ m. 0) (λ m time image. MayLeave m image) MayLeave m n (TornFrom at (length from) (MayLeave m))) (sym is)
       (moments_now m (after_finish at from (after_begin at from (after_step m))) (TornFrom at (length from) (MayLeave m)) (λ image left. done_leaves image left))
 
-  pub done_makes : (new : MemState) (failed : Bool) → new ≡ after_finish at from (after_begin at from (after_step m)) → trap_is_met m.trap ≡ false → nat_le (at + length from) (length m.bytes) ≡ true → failed ≡ false → Makes (Write at from ∷ []) (Some (rigged m)) (Some (rigged new)) failed
-  done_makes new failed is goes inside ok = subst (λ n. Makes (Write at from ∷ []) (Some (rigged m)) (Some (rigged n)) failed) (sym is)
+  pub done_makes : (new : MemState) (failed : Bool) → new ≡ after_finish at from (after_begin at from (after_step m)) → trap_is_met m.trap ≡ false → nat_le (at + length from) (length m.bytes) ≡ true → failed ≡ false → Makes (Write at from ∷ []) (Some (rig_of m)) (Some (rig_of new)) failed
+  done_makes new failed is goes inside ok = subst (λ n. Makes (Write at from ∷ []) (Some (rig_of m)) (Some (rig_of n)) failed) (sym is)
       (makes_one (Write at from) m (after_finish at from (after_begin at from (after_step m))) failed
       (wrote_done m at from _ _ disk within (λ i. not (goes i) && inside i) (λ i. (not (goes i) || fuse_is_met m.trap) && inside i))
       (ok ∙ sym (λ i. goes i || not (inside i))))
@@ -206,19 +206,19 @@ module _ (m : MemState) (at : ℕ) (from : List ℕ) (disk : IsDisk m) (within :
   begun_moments new is = subst (λ n. Moments (λ m. 0) (λ m time image. MayLeave m image) MayLeave m n (TornFrom at (length from) (MayLeave m))) (sym is)
       (moments_now m (after_fault (after_begin at from (after_step m))) (TornFrom at (length from) (MayLeave m)) (λ image left. write_leaves image left))
 
-  pub begun_makes : (new : MemState) (failed : Bool) → new ≡ after_fault (after_begin at from (after_step m)) → trap_is_met m.trap ≡ true → fuse_is_met m.trap ≡ true → nat_le (at + length from) (length m.bytes) ≡ true → failed ≡ true → Makes (Write at from ∷ []) (Some (rigged m)) (Some (rigged new)) failed
-  begun_makes new failed is stops fuse inside err = subst (λ n. Makes (Write at from ∷ []) (Some (rigged m)) (Some (rigged n)) failed) (sym is)
+  pub begun_makes : (new : MemState) (failed : Bool) → new ≡ after_fault (after_begin at from (after_step m)) → trap_is_met m.trap ≡ true → fuse_is_met m.trap ≡ true → nat_le (at + length from) (length m.bytes) ≡ true → failed ≡ true → Makes (Write at from ∷ []) (Some (rig_of m)) (Some (rig_of new)) failed
+  begun_makes new failed is stops fuse inside err = subst (λ n. Makes (Write at from ∷ []) (Some (rig_of m)) (Some (rig_of n)) failed) (sym is)
       (makes_one (Write at from) m (after_fault (after_begin at from (after_step m))) failed
-      (wrote_begun m at from (one_more m.faults) _ _ disk within (λ i. not (stops i) && in_disk at (length from) (rigged m)) (λ i. (not (stops i) || fuse i) && inside i))
-      (err ∙ sym (λ i. stops i || not (in_disk at (length from) (rigged m)))))
+      (wrote_begun m at from (one_more m.faults) _ _ disk within (λ i. not (stops i) && in_disk at (length from) (rig_of m)) (λ i. (not (stops i) || fuse i) && inside i))
+      (err ∙ sym (λ i. stops i || not (in_disk at (length from) (rig_of m)))))
 
   pub done_written : (new : MemState) (bytes : List ℕ) → new ≡ after_finish at from (after_begin at from (after_step m)) → Some m.bytes ≡ Some bytes → (now : List ℕ) × (Some new.bytes ≡ Some now) × Written at from bytes now
   done_written new bytes is reads =
       let same : m.bytes ≡ bytes = cc in
       (with_bytes at from m.bytes, ap (λ (n : MemState). Some n.bytes) is, subst (λ (b : List ℕ). Written at from b (with_bytes at from m.bytes)) same (with_bytes_written at from m.bytes within))
 
-pub synced_makes : (m new : MemState) (failed : Bool) → new ≡ after_sync (after_step m) → trap_is_met m.trap ≡ false → failed ≡ false → Makes (Sync ∷ []) (Some (rigged m)) (Some (rigged new)) failed
-synced_makes m new failed is goes ok = subst (λ n. Makes (Sync ∷ []) (Some (rigged m)) (Some (rigged n)) failed) (sym is)
+pub synced_makes : (m new : MemState) (failed : Bool) → new ≡ after_sync (after_step m) → trap_is_met m.trap ≡ false → failed ≡ false → Makes (Sync ∷ []) (Some (rig_of m)) (Some (rig_of new)) failed
+synced_makes m new failed is goes ok = subst (λ n. Makes (Sync ∷ []) (Some (rig_of m)) (Some (rig_of n)) failed) (sym is)
     (makes_one Sync m (after_sync (after_step m)) failed (synced_done m (trap_is_met m.trap) goes) (ok ∙ sym goes))
 
 -- a call that failed with nothing done

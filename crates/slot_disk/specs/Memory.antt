@@ -52,8 +52,9 @@ pub record Loose (m : MemState) (image : List ℕ) : Type 0 where
 abbrev pub MayLeave : MemState → List ℕ → Type 0
 MayLeave m image = Loose m image ⊎ ((pick : Pick) × (image ≡ cut_of m pick))
 
-abbrev pub rigged : MemState → Rigged
-rigged m = record { bytes = m.bytes; cut = cut_of m; trap = m.trap }
+-- what it tells as a rig: its bytes, what a cut would leave of it, and the trap
+abbrev pub rig_of : MemState → Rigged
+rig_of m = record { bytes = m.bytes; cut = cut_of m; trap = m.trap }
 
 -- the parts of a call: the trap comes one call nearer; a fault is counted; a write begins, so that
 -- it counts for a cut; a read gives it; all is settled
@@ -88,13 +89,13 @@ abbrev pub after_restore : MemState → MemState
 after_restore m = record (holding (cut_of m (pick_of m.trap)) m) { trap = trap_after_restore m.trap }
 
 -- the laws of the traits
-pub rig_reads_of : (m : MemState) (r : Rigged) → Some (rigged m) ≡ Some r → Some m.bytes ≡ Some r.bytes
+pub rig_reads_of : (m : MemState) (r : Rigged) → Some (rig_of m) ≡ Some r → Some m.bytes ≡ Some r.bytes
 rig_reads_of m r is = ap (λ (o : Option Rigged). option_map (λ q. q.bytes) o) is
 
-pub cut_counts_of : (m : MemState) (r : Rigged) (pick : Pick) → Some (rigged m) ≡ Some r → MayLeave m (r.cut pick)
+pub cut_counts_of : (m : MemState) (r : Rigged) (pick : Pick) → Some (rig_of m) ≡ Some r → MayLeave m (r.cut pick)
 cut_counts_of m r pick is = inr (pick, ap (λ (q : Rigged). q.cut pick) (sym (same is)))
   where
-    same : Some (rigged m) ≡ Some r → rigged m ≡ r
+    same : Some (rig_of m) ≡ Some r → rig_of m ≡ r
     same e = cc
 
 pub leaves_seen_of : (m : MemState) (bytes : List ℕ) → Some m.bytes ≡ Some bytes → MayLeave m bytes

@@ -1,7 +1,7 @@
 //! A disk in memory, whose power can be cut at each call.
 ghost use Rattle.std.specs.Prelude.{◌≡◌, ℕ, ◌+◌, ◌≤◌, ◌<◌, if◌then◌else◌, set, List, [], ◌∷◌, ◌++◌, Bool, true, false, length, take, drop, replicate, nat_le, Option, Some, IfOk};
 ghost use Rattle.slot_spec.specs.Rig.{with_bytes, power_restored};
-ghost use Rattle.slot_disk.specs.Memory.{MayLeave, rigged, after_step, after_fault, after_begin, after_finish, after_sync, with_marks, with_byte, zero_disk, after_restore, cut_by};
+ghost use Rattle.slot_disk.specs.Memory.{MayLeave, rig_of, after_step, after_fault, after_begin, after_finish, after_sync, with_marks, with_byte, zero_disk, after_restore, cut_by};
 
 use crate::disk::{Disk, Rig};
 use crate::trap::{is_met, meets_fuse, one_call_nearer, pick, without_spent_fuse};
@@ -127,7 +127,7 @@ impl Disk for MemDisk {
 
     ghost clock = { λ m. 0 };
 
-    ghost rig = { λ m. Some (rigged m) };
+    ghost rig = { λ m. Some (rig_of m) };
 
     ghost faults = { λ m. m.faults };
 
@@ -255,7 +255,7 @@ impl MemDisk {
     /// reached is taken away; any other trap stays.
     pub fn restore(&mut self)
         ensures state { self.new ≡ after_restore self.old }
-        ensures rig { rigged self.new ≡ power_restored (rigged self.old) }
+        ensures rig { rig_of self.new ≡ power_restored (rig_of self.old) }
         ensures left { (image : List ℕ) → MayLeave self.new image → MayLeave self.old image }
     {
         self.take_cut();

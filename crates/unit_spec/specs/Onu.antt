@@ -1,5 +1,6 @@
--- The unit: its database, and for each priority the reply that it gave last.
-use Rattle.std.specs.Prelude.{ℕ, ◌-◌, ◌/◌, ◌==◌, ◌&&◌, is_none, Bool, true, false, List, [], ◌∷◌, replicate, Option, Some, None, Result, Ok, Err}
+-- The unit: its database, for each priority the reply that it gave last, and the database that it
+-- put by for an upload.
+use Rattle.std.specs.Prelude.{ℕ, ◌+◌, ◌-◌, ◌/◌, ◌==◌, ◌&&◌, is_none, nat_le, Bool, true, false, List, [], ◌∷◌, length, replicate, Option, Some, None, Result, Ok, Err}
 use Rattle.omci_types.specs.declared.Code.{Code}
 use Rattle.omci_types.specs.declared.Frame.{Frame}
 use Rattle.omci_types.specs.declared.Software.{Software}
@@ -13,19 +14,29 @@ use Rattle.message_spec.specs.declared.ContentsFault.{ContentsFault}
 use Rattle.message_spec.specs.declared.ContentsFault.TheVariants.{UnknownType, Bits}
 use Rattle.message_spec.specs.Reading.{plain, message_of}
 use Rattle.frame_spec.specs.Baseline.{spelling, packet_frame}
-use Rattle.mib_spec.specs.Database.{Database, first}
+use Rattle.mib_spec.specs.Database.{Database, first, counter}
 use Rattle.mib_spec.specs.Requests.{create_code, create_outcome, delete_outcome, set_outcome, get_outcome, reset_code, reset, unless_refused}
 use Rattle.retry_spec.specs.Kept.{Kept, nothing_kept, kept_for, kept_with}
+use Rattle.upload_spec.specs.Pieces.{without_makers, pieces, piece_at}
+use Rattle.unit_spec.specs.declared.TheConstants.{SNAPSHOT_SECONDS}
+use Rattle.unit_spec.specs.declared.Note.{Note}
+use Rattle.unit_spec.specs.declared.Note.TheVariants as note
 use Rattle.unit_spec.specs.declared.Did.{Did}
 use Rattle.unit_spec.specs.declared.Did.TheVariants as did
+
+-- a database that was put by, and the seconds since then or since it was last asked for a piece
+pub record Snapshot : Type 0 where
+  pub database : Database
+  pub age : ℕ
 
 pub record Onu : Type 0 where
   pub database : Database
   pub kept : Kept
+  pub snapshot : Option Snapshot
 
--- a unit that starts: the first database, and nothing kept
+-- a unit that starts: the first database, nothing kept, and nothing put by
 unfoldable pub onu_started : Software → Onu
-onu_started software = record { database = first software; kept = nothing_kept }
+onu_started software = record { database = first software; kept = nothing_kept; snapshot = None }
 
 -- what a packet comes to: the unit after it, what it did, and its reply, which is empty where it gave none
 pub record Reception : Type 0 where
@@ -33,22 +44,23 @@ pub record Reception : Type 0 where
   pub did : Did
   pub reply : List ℕ
 
-abbrev pub dropped : Onu → Reception
-dropped u = record { unit = u; did = did.Dropped; reply = [] }
+abbrev pub drop_packet : Onu → Reception
+drop_packet u = record { unit = u; did = did.Dropped; reply = [] }
 
 -- ---- a request is carried out
 
--- what carrying a request out comes to: the response's frame, and the unit after it
+-- what carrying a request out comes to: the response's frame, the unit after it, and what else is told of it
 pub record Answer : Type 0 where
   pub reply : Frame
   pub unit : Onu
+  pub note : Option Note
 
 -- the response to a request, under its TCI and for its entity
 abbrev pub response_frame : Frame → Response → Frame
 response_frame f response = plain (Answered f.tci f.entity response)
 
-abbrev pub answered : Frame → Response → Onu → Answer
-answered f response u = record { reply = response_frame f response; unit = u }
+abbrev pub respond : Frame → Response → Onu → Answer
+respond f response u = record { reply = response_frame f response; unit = u; note = None }
 
 abbrev pub with_database : Database → Onu → Onu
 with_database db u = record u { database = db }
@@ -59,29 +71,56 @@ abbrev pub refusal_frame : Frame → Frame
 refusal_frame f = record { tci = f.tci; kind = f.kind - 32; entity = f.entity; contents = 2 ∷ replicate 31 0 }
 
 abbrev pub not_supported : Frame → Onu → Answer
-not_supported f u = record { reply = refusal_frame f; unit = u }
+not_supported f u = record { reply = refusal_frame f; unit = u; note = None }
 
 abbrev pub code : ℕ → Code
 code number = record { 0 = number }
 
+-- upload: the database is put by, and the response says how many pieces it has
+abbrev pub upload : Frame → Onu → Answer
+upload f u =
+    record {
+      reply = response_frame f (response.Upload (length (pieces (without_makers u.database))));
+      unit = record u { snapshot = Some (record { database = u.database; age = 0 }) };
+      note = Some (note.Snapshot (length u.database) (counter u.database));
+    }
+
+-- a piece that isn't there is all zeros
+abbrev pub or_zeros : Option (List ℕ) → List ℕ
+or_zeros None = replicate 32 0
+or_zeros (Some piece) = piece
+
+-- upload next: the piece of that number of what was put by, whose age begins anew
+abbrev pub next_piece : ℕ → Option Snapshot → List ℕ
+next_piece number None = or_zeros None
+next_piece number (Some s) = or_zeros (piece_at number (without_makers s.database))
+
+abbrev pub fresh_again : Option Snapshot → Option Snapshot
+fresh_again None = None
+fresh_again (Some s) = Some (record s { age = 0 })
+
+abbrev pub upload_next : Frame → ℕ → Onu → Answer
+upload_next f number u =
+    respond f (response.UploadNext (next_piece number u.snapshot)) (record u { snapshot = fresh_again u.snapshot })
+
 -- the requests that the unit carries out
 unfoldable pub answer : Frame → Request → Onu → Answer
 answer f (request.Create values) u =
-    let o = create_outcome f.entity values u.database in answered f (response.Create (code o.0) 0) (with_database o.1 u)
+    let o = create_outcome f.entity values u.database in respond f (response.Create (code o.0) 0) (with_database o.1 u)
 answer f request.Delete u =
-    let o = delete_outcome f.entity u.database in answered f (response.Delete (code o.0)) (with_database o.1 u)
+    let o = delete_outcome f.entity u.database in respond f (response.Delete (code o.0)) (with_database o.1 u)
 answer f (request.Set mask values) u =
     let o = set_outcome f.entity mask values u.database in
-    answered f (response.Set (code o.code) o.unsupported o.failed) (with_database o.database u)
+    respond f (response.Set (code o.code) o.unsupported o.failed) (with_database o.database u)
 answer f (request.Get mask) u =
     let o = get_outcome f.entity mask u.database in
-    answered f (response.Get (code o.code) o.mask o.values o.unsupported 0) u
+    respond f (response.Get (code o.code) o.mask o.values o.unsupported 0) u
 answer f request.Reset u =
-    answered f (response.Reset (code (reset_code f.entity))) (with_database (unless_refused (reset_code f.entity) (reset u.database) u.database) u)
+    respond f (response.Reset (code (reset_code f.entity))) (with_database (unless_refused (reset_code f.entity) (reset u.database) u.database) u)
 answer f (request.Alarms mode) u = not_supported f u
 answer f (request.AlarmsNext number) u = not_supported f u
-answer f request.Upload u = not_supported f u
-answer f (request.UploadNext number) u = not_supported f u
+answer f request.Upload u = upload f u
+answer f (request.UploadNext number) u = upload_next f number u
 answer f (request.Start window size targets target) u = not_supported f u
 answer f (request.Section number bytes last) u = not_supported f u
 answer f (request.End crc size targets target) u = not_supported f u
@@ -92,21 +131,21 @@ answer f (request.Reboot flags) u = not_supported f u
 -- ---- a request comes
 
 -- a request was carried out, and its reply is kept under its TCI
-abbrev pub carried : ℕ → Answer → Reception
-carried tci a =
+abbrev pub keep_reply : ℕ → Answer → Reception
+keep_reply tci a =
     record {
       unit = record a.unit { kept = kept_with tci (spelling a.reply) a.unit.kept };
-      did = did.Carried;
+      did = did.Carried a.note;
       reply = spelling a.reply;
     }
 
 -- a request that comes again under the kept TCI of its priority is answered by the kept reply, and not carried out
 abbrev pub unless_kept : Option (List ℕ) → ℕ → Answer → Onu → Reception
 unless_kept (Some reply) tci a u = record { unit = u; did = did.Kept; reply = reply }
-unless_kept None tci a u = carried tci a
+unless_kept None tci a u = keep_reply tci a
 
-unfoldable pub asked : Frame → Answer → Onu → Reception
-asked f a u = unless_kept (kept_for f.tci u.kept) f.tci a u
+unfoldable pub take_request : Frame → Answer → Onu → Reception
+take_request f a u = unless_kept (kept_for f.tci u.kept) f.tci a u
 
 -- a section that isn't its window's last asks for no reply
 abbrev pub asks_nothing : Request → Bool
@@ -114,42 +153,57 @@ asks_nothing (request.Section number bytes false) = true
 asks_nothing _ = false
 
 abbrev pub unless_quiet : Bool → Frame → Request → Onu → Reception
-unless_quiet true f r u = dropped u
-unless_quiet false f r u = asked f (answer f r u) u
+unless_quiet true f r u = drop_packet u
+unless_quiet false f r u = take_request f (answer f r u) u
 
 -- whether a type byte is that of a request: AR alone
 abbrev pub has_request_bits : ℕ → Bool
 has_request_bits kind = kind / 32 == 2
 
 abbrev pub if_request : Bool → Frame → Onu → Reception
-if_request true f u = asked f (not_supported f u) u
-if_request false f u = dropped u
+if_request true f u = take_request f (not_supported f u) u
+if_request false f u = drop_packet u
 
 -- a request is answered; an unknown type counts as one where its bits are those of a request; nothing else is for the unit
 abbrev pub for_message : Result Message ContentsFault → Frame → Onu → Reception
 for_message (Ok (Asked tci entity r)) f u = unless_quiet (asks_nothing r) f r u
-for_message (Ok (Answered tci entity r)) f u = dropped u
-for_message (Ok (Told tci entity notice)) f u = dropped u
+for_message (Ok (Answered tci entity r)) f u = drop_packet u
+for_message (Ok (Told tci entity notice)) f u = drop_packet u
 for_message (Err (UnknownType number)) f u = if_request (has_request_bits f.kind) f u
-for_message (Err (Bits kind)) f u = dropped u
+for_message (Err (Bits kind)) f u = drop_packet u
 
 abbrev pub for_frame : Option Frame → Onu → Reception
-for_frame None u = dropped u
+for_frame None u = drop_packet u
 for_frame (Some f) u = for_message (message_of f) f u
 
 -- a packet that comes: one that isn't exactly one frame is nothing
 unfoldable pub onu_received : List ℕ → Onu → Reception
 onu_received bytes u = for_frame (packet_frame bytes) u
 
+-- ---- a second passes
+
+abbrev pub unless_over : Bool → Snapshot → Option Snapshot
+unless_over true s = None
+unless_over false s = Some (record s { age = s.age + 1 })
+
+-- what was put by is a second older, and is dropped where its time is over
+abbrev pub second_older : Option Snapshot → Option Snapshot
+second_older None = None
+second_older (Some s) = unless_over (nat_le SNAPSHOT_SECONDS (s.age + 1)) s
+
+unfoldable pub onu_ticked : Onu → Onu
+onu_ticked u = record u { snapshot = second_older u.snapshot }
+
 -- ---- memory
 
--- whether carrying a request out takes memory: an entity is made
-abbrev pub makes_entity : Frame → Request → Database → Bool
-makes_entity f (request.Create values) db = create_code f.entity db == 0
-makes_entity f _ db = false
+-- whether carrying a request out takes memory: an entity is made, or the database is put by
+abbrev pub takes_room : Frame → Request → Database → Bool
+takes_room f (request.Create values) db = create_code f.entity db == 0
+takes_room f request.Upload db = true
+takes_room f _ db = false
 
 abbrev pub message_takes : Result Message ContentsFault → Frame → Onu → Bool
-message_takes (Ok (Asked tci entity r)) f u = is_none (kept_for f.tci u.kept) && makes_entity f r u.database
+message_takes (Ok (Asked tci entity r)) f u = is_none (kept_for f.tci u.kept) && takes_room f r u.database
 message_takes (Ok (Answered tci entity r)) f u = false
 message_takes (Ok (Told tci entity notice)) f u = false
 message_takes (Err fault) f u = false
@@ -158,6 +212,6 @@ abbrev pub frame_takes : Option Frame → Onu → Bool
 frame_takes None u = false
 frame_takes (Some f) u = message_takes (message_of f) f u
 
--- whether a packet takes memory: it asks for an entity that will be made, and no kept reply answers it
+-- whether a packet takes memory: it asks for an entity that will be made or for an upload, and no kept reply answers it
 unfoldable pub takes_memory : List ℕ → Onu → Bool
 takes_memory bytes u = frame_takes (packet_frame bytes) u

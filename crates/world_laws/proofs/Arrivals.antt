@@ -11,19 +11,21 @@ use Rattle.link_spec.specs.declared.Direction.TheVariants.{Down, Up}
 use Rattle.link_spec.specs.Link.{Sent, Link, Ways, way_in, with_way, passed, ways_past, delivered_on, lane_of, sent_on}
 use Rattle.retry_spec.specs.Kept.{Reply, Kept, kept_in, keep_in, if_answers, kept_for, kept_with}
 use Rattle.manager_spec.specs.Manager.{Manager}
+use Rattle.unit_spec.specs.declared.Note.{Note}
 use Rattle.unit_spec.specs.declared.Did.{Did}
 use Rattle.unit_spec.specs.declared.Did.TheVariants as did
-use Rattle.unit_spec.specs.Onu.{Onu, Reception, Answer, dropped, carried, unless_kept, asked, onu_received}
+use Rattle.unit_spec.specs.Onu.{Onu, Reception, Answer, drop_packet, keep_reply, unless_kept, take_request, onu_received}
 use Rattle.history_spec.specs.History.{CarriedOut}
 use Rattle.moves_spec.specs.Channel.{Transaction, place_number, RequestOf, ReplyTo, KeptReply, Channel, View, lane_view, with_lane_view}
 use Rattle.moves_spec.specs.Moves.{Execution, RequestComes, with_packet, with_floor_down, with_execution, execute, execute_unless, serve, request_if, may_go_down, request_at, after_move}
 use Rattle.moves_laws.proofs.Numbers.{place_is_number}
 use Rattle.world_spec.specs.Happenings.{Happening, PacketCame, link_read}
 use Rattle.world_spec.specs.Ends.{unit_deed}
-use Rattle.world_spec.specs.History.{Told, name_at, tell_all}
+use Rattle.world_spec.specs.History.{Told, name_at, remark_of, tell_all}
 use Rattle.world_laws.proofs.Tcis.{lane_of_tci, same_number, tci_fits, tci_spelled}
 use Rattle.world_laws.proofs.Likeness.{tci_at, one_more, IsKept, IsUnit, Like, some_unit, Follows}
 use Rattle.world_laws.proofs.Unit.{IsAsked, reception_is}
+use Rattle.world_laws.proofs.Following.{remark_follows}
 
 -- ---- what came
 
@@ -288,6 +290,15 @@ repeat_follows l tr i s r link lives u manager t p a h is same = (
 
 -- ---- it carries the request out
 
+-- what is told of it, but for a note
+abbrev pub executed_told : ℕ → Sent → ℕ → List ℕ → Onu → Told → Told
+executed_told i s lives reply u t =
+    let c = came_told i s t in
+    record c {
+      names = c.names ++ c.came ∷ [];
+      history = CarriedOut lives c.came reply u.database ∷ c.history;
+    }
+
 execute_goes : (l : Priority) (tr : Transaction) (e : Execution) (v : View) (o : Option KeptReply)
     → ((k : KeptReply) → o ≡ Some k → place_number k.transaction.place ≢ place_number tr.place)
     → serve l tr e v o ≡ execute l tr e v
@@ -349,25 +360,25 @@ executed_like High tr e r link lives u w manager t v p k tci packet own name h =
   manager_is = λ m f. let q = h.manager_is m f in record { is_low = q.is_low; is_high = q.is_high };
 }
 
-execute_follows : (l : Priority) (tr : Transaction) (i : ℕ) (s : Sent) (reply : List ℕ)
+-- the move that a request which is carried out makes
+executed_move : (l : Priority) (tr : Transaction) (i : ℕ) (s : Sent) (reply : List ℕ)
     (link : Link) (lives : ℕ) (u w : Onu) (manager : Option Manager) (t : Told) (p : Channel)
     → Stands l tr i s t.names p → Like link lives (Some u) manager t p
     → ((r : Reply) → kept_in l u.kept ≡ Some r → r.tci ≢ tci_at l tr.place)
     → w.kept ≡ keep_in l (record { tci = tci_at l tr.place; packet = reply }) u.kept
     → packet_tci reply ≡ tci_at l tr.place
-    → let hs = arrival i s did.Carried reply u lives in Follows (link_read hs link) lives (Some w)
-    manager (tell_all hs t) p
-execute_follows l tr i s reply link lives u w manager t p a h differs k own = (
-  RequestComes i (Some e) ∷ [],
-  subst (λ q. Like (sent_on (record { direction = Up; bytes = reply }) (delivered_on i s link))
-      lives (Some w) manager (record d { names = d.names ++ d.came ∷ [] }) q)
-      (sym moves)
-      (replied_like l tr reply (delivered_on i s link) lives (Some w) manager d
-      (with_execution tr e v) p own a.name
-      (executed_like l tr e (record { tci = tci_at l tr.place; packet = reply })
-      (delivered_on i s link) lives u w manager c v p k refl refl own a.name
-      (came_down l tr.place i s link lives (Some u) manager t p a.way a.tci h))),
-)
+    → Like (sent_on (record { direction = Up; bytes = reply }) (delivered_on i s link)) lives
+    (Some w) manager (executed_told i s lives reply u t)
+    (after_move (RequestComes i (Some (record { reply = reply; before = u.database }))) p)
+executed_move l tr i s reply link lives u w manager t p a h differs k own =
+    subst
+    (λ q. Like (sent_on (record { direction = Up; bytes = reply }) (delivered_on i s link)) lives
+    (Some w) manager (executed_told i s lives reply u t) q) (sym moves)
+    (replied_like l tr reply (delivered_on i s link) lives (Some w) manager d
+    (with_execution tr e v) p own a.name
+    (executed_like l tr e (record { tci = tci_at l tr.place; packet = reply })
+    (delivered_on i s link) lives u w manager c v p k refl refl own a.name
+    (came_down l tr.place i s link lives (Some u) manager t p a.way a.tci h)))
   where
     e : Execution
     e = record { reply = reply; before = u.database }
@@ -391,6 +402,21 @@ execute_follows l tr i s reply link lives u w manager t p a h differs k own = (
     moves = request_goes l tr i (Some e) p a.at a.may ∙ ap (λ x. with_lane_view l x p)
         (execute_goes l tr e v (lane_view l p).lane.kept other)
 
+-- what is noted of it is a remark
+noted_follows : (note : Option Note) (i : ℕ) (s : Sent) (reply : List ℕ) (link : Link)
+    (lives : ℕ) (u w : Onu) (manager : Option Manager) (t : Told) (p : Channel)
+    → Like (sent_on (record { direction = Up; bytes = reply }) (delivered_on i s link)) lives
+    (Some w) manager (executed_told i s lives reply u t)
+    (after_move (RequestComes i (Some (record { reply = reply; before = u.database }))) p)
+    → let hs = arrival i s (did.Carried note) reply u lives in Follows (link_read hs link) lives
+    (Some w) manager (tell_all hs t) p
+noted_follows None i s reply link lives u w manager t p h =
+    (RequestComes i (Some (record { reply = reply; before = u.database })) ∷ [], h)
+noted_follows (Some note) i s reply link lives u w manager t p h =
+    let more = remark_follows (remark_of lives (name_at i t.names) note u.database) _ lives (Some w)
+    manager (executed_told i s lives reply u t) _ h in
+    (RequestComes i (Some (record { reply = reply; before = u.database })) ∷ more.0, more.1)
+
 -- ---- what the unit makes of it
 
 -- a request under this TCI: its lane, and what is kept there
@@ -404,9 +430,9 @@ kept_with_is : (l : Priority) (tci : ℕ) (reply : List ℕ) (k : Kept) → prio
 unfolding kept_with
 kept_with_is l tci reply k e = ap (λ x. keep_in x (record { tci = tci; packet = reply }) k) e
 
-pub asked_is : (f : Frame) (a : Answer) (u : Onu) → asked f a u
+pub asked_is : (f : Frame) (a : Answer) (u : Onu) → take_request f a u
     ≡ unless_kept (kept_for f.tci u.kept) f.tci a u
-unfolding asked
+unfolding take_request
 asked_is f a u = refl
 
 abbrev pub ReceptionFollows : Reception → ℕ → Sent → Onu → Link → ℕ → Option Manager → Told
@@ -420,11 +446,11 @@ asked_follows : (l : Priority) (tr : Transaction) (i : ℕ) (s : Sent) (f : Fram
     → Stands l tr i s t.names p → Like link lives (Some u) manager t p → f.tci ≡ tci_at l tr.place
     → a.reply.tci ≡ tci_at l tr.place → a.unit.kept ≡ u.kept
     → KeepsIt f.tci (kept_in l u.kept) ⊎ KeepsOther f.tci (kept_in l u.kept)
-    → ReceptionFollows (asked f a u) i s u link lives manager t p
+    → ReceptionFollows (take_request f a u) i s u link lives manager t p
 asked_follows l tr i s f a link lives u manager t p st h tci reply same (inl k) =
     let lane : priority_of f.tci ≡ l = ap priority_of tci ∙ lane_of_tci l (place_number tr.place)
     (place_is_number tr.place) in
-    let is : asked f a u ≡ record { unit = u; did = did.Kept; reply = k.reply.packet } =
+    let is : take_request f a u ≡ record { unit = u; did = did.Kept; reply = k.reply.packet } =
     asked_is f a u ∙ ap (λ o. unless_kept o f.tci a u)
     (kept_for_is l f.tci u.kept lane ∙ k.answers) in
     subst (λ r. ReceptionFollows r i s u link lives manager t p) (sym is)
@@ -432,22 +458,23 @@ asked_follows l tr i s f a link lives u manager t p st h tci reply same (inl k) 
 asked_follows l tr i s f a link lives u manager t p st h tci reply same (inr k) =
     let lane : priority_of f.tci ≡ l = ap priority_of tci ∙ lane_of_tci l (place_number tr.place)
     (place_is_number tr.place) in
-    let is : asked f a u ≡ carried f.tci a =
+    let is : take_request f a u ≡ keep_reply f.tci a =
     asked_is f a u ∙ ap (λ o. unless_kept o f.tci a u)
     (kept_for_is l f.tci u.kept lane ∙ k.answers) in
     subst (λ r. ReceptionFollows r i s u link lives manager t p) (sym is)
-    (execute_follows l tr i s (spelling a.reply) link lives u (carried f.tci a).unit manager t p st
-    h
+    (noted_follows a.note i s (spelling a.reply) link lives u (keep_reply f.tci a).unit manager t p
+    (executed_move l tr i s (spelling a.reply) link lives u (keep_reply f.tci a).unit manager t p
+    st h
     (λ r e. subst (λ n. r.tci ≢ n) tci (k.differs r e))
     (ap (kept_with f.tci (spelling a.reply)) same ∙ kept_with_is l f.tci (spelling a.reply) u.kept
     lane ∙ ap (λ n. keep_in l (record { tci = n; packet = spelling a.reply }) u.kept) tci)
     (tci_spelled a.reply
     (subst (λ n. n < 2 ^ 16) (sym reply)
-    (tci_fits l (place_number tr.place) (place_is_number tr.place))) ∙ reply))
+    (tci_fits l (place_number tr.place) (place_is_number tr.place))) ∙ reply)))
 
 reception_follows : (l : Priority) (tr : Transaction) (i : ℕ) (s : Sent) (r : Reception)
     (link : Link) (lives : ℕ) (u : Onu) (manager : Option Manager) (t : Told) (p : Channel)
-    → Stands l tr i s t.names p → Like link lives (Some u) manager t p → (r ≡ dropped u)
+    → Stands l tr i s t.names p → Like link lives (Some u) manager t p → (r ≡ drop_packet u)
     ⊎ IsAsked (packet_tci s.bytes) u r → ReceptionFollows r i s u link lives manager t p
 reception_follows l tr i s r link lives u manager t p st h (inl drops) =
     subst (λ r. ReceptionFollows r i s u link lives manager t p) (sym drops)

@@ -1,15 +1,19 @@
 mod Tcis
 mod Reading
 mod Unit
+pub mod Likeness
+pub mod Keeping
 mod Manager
-mod Likeness
+mod Following
 mod Sending
 mod Ticks
-mod Turns
+pub mod Turns
 mod Arrivals
 mod Taking
 mod Lines
 pub mod Runs
 pub mod Reached
 pub mod Seen
+pub mod HandingOn
 pub mod Worked
+pub mod WorkedCopies

@@ -1,15 +1,15 @@
 -- The machine of both ends beside the machine of moves: what of one is what of the other.
 use Rattle.std.proofs.Common.{◌≡◌, ◌≢◌, ℕ, zero, suc, ◌+◌, ◌≤◌, Bool, List, [], ◌∷◌, ◌++◌, length, Option, Some, None, slice_get, refl, sym, ap, subst}
 use Rattle.std.proofs.lemmas.Option.{same_Some}
+use Rattle.std.specs.List.{Contains}
 use Rattle.omci_types.specs.declared.Priority.{Priority}
 use Rattle.omci_types.specs.declared.Priority.TheVariants.{Low, High}
 use Rattle.tci_spec.specs.Tci.{tci_of, packet_tci}
 use Rattle.link_spec.specs.declared.Direction.TheVariants.{Down, Up}
 use Rattle.link_spec.specs.Link.{Sent, Link, Ways}
 use Rattle.retry_spec.specs.Kept.{Reply, Kept}
-use Rattle.lane_spec.specs.Command.{command_packets}
+use Rattle.lane_spec.specs.Command.{command_packets, is_probe}
 use Rattle.lane_spec.specs.Lane.{Lane, Waiting}
-use Rattle.manager_spec.specs.declared.Report.{Report}
 use Rattle.manager_spec.specs.Manager.{Manager, lane_in, with_lane}
 use Rattle.unit_spec.specs.Onu.{Onu}
 use Rattle.moves_spec.specs.Channel.{place_number, LinkPacket, RequestOf, ReplyTo, Unasked, KeptReply, Outstanding, LaneState, Channel, View, lane_view, with_lane_view}
@@ -22,10 +22,11 @@ tci_at l place = tci_of l (place_number place)
 
 -- ---- packets
 
--- a packet on the link, and the command that the history gives it
+-- A packet on the link, and the command that the history gives it. A request is one of the packets
+-- that its command sends each time.
 abbrev pub IsPacket : Sent → ℕ → LinkPacket → Type 0
 IsPacket s name (RequestOf l t) = (s.direction ≡ Down) × (packet_tci s.bytes ≡ tci_at l t.place) ×
-    (name ≡ t.id)
+    (name ≡ t.id) × Contains t.packets s.bytes
 IsPacket s name (ReplyTo l t r) =
     (s.direction ≡ Up) × (packet_tci s.bytes ≡ tci_at l t.place) × (name ≡ t.id) × (s.bytes ≡ r)
 IsPacket s name Unasked = ⊥
@@ -107,7 +108,7 @@ pub record Awaits (l : Priority) (last next : ℕ) (w : Waiting) (place : ℕ)
   pub number : next ≡ place_number (place + 1)
   pub tci : w.tci ≡ tci_at l o.transaction.place
   pub at : o.transaction.place ≡ place
-  pub probe : w.command.probe ≡ o.transaction.probe
+  pub probe : is_probe w.command.purpose ≡ o.transaction.probe
   pub packets : command_packets w.tci w.command ≡ o.transaction.packets
   pub sent : w.repeats + 1 ≤ o.sent
   pub name : last ≡ o.transaction.id
@@ -273,11 +274,34 @@ like_one_lane l link lives unit m x t p h k =
     (subst (λ q. IsManager t.low t.high (with_lane l x m) q.low q.high) (same_view l p)
     (one_lane l t t m x (lane_view l p) p (h.manager_is m refl) (λ k ne. refl) k))
 
--- the reports of a manager don't matter
-pub like_reports : (reports : List Report) (link : Link) (lives : ℕ) (unit : Option Onu)
-    (m : Manager) (t : Told) (p : Channel)
-    → Like link lives unit (Some m) t p
-    → Like link lives unit (Some (record m { reports = reports })) t p
-like_reports reports link lives unit m t p h =
-    like_managed link lives unit _ t p (like_unmanaged link lives unit (Some m) t p h)
-    (let k = h.manager_is m refl in record { is_low = k.is_low; is_high = k.is_high })
+-- a manager with the same lanes
+pub record SameLanes (m n : Manager) : Type 0 where
+  pub low : n.low ≡ m.low
+  pub high : n.high ≡ m.high
+
+-- nothing else of a manager matters
+pub like_same_lanes : (link : Link) (lives : ℕ) (unit : Option Onu) (m n : Manager) (t : Told)
+    (p : Channel) → SameLanes m n
+    → Like link lives unit (Some m) t p → Like link lives unit (Some n) t p
+like_same_lanes link lives unit m n t p s h =
+    let k = h.manager_is m refl in
+    like_managed link lives unit n t p (like_unmanaged link lives unit (Some m) t p h)
+    (record {
+      is_low = subst (λ x. IsLaneOf Low t.low x p.low) (sym s.low) k.is_low;
+      is_high = subst (λ x. IsLaneOf High t.high x p.high) (sym s.high) k.is_high;
+    })
+
+-- nor anything of a unit but what it keeps
+pub like_same_kept : (link : Link) (lives : ℕ) (u v : Onu) (manager : Option Manager) (t : Told)
+    (p : Channel) → v.kept ≡ u.kept
+    → Like link lives (Some u) manager t p → Like link lives (Some v) manager t p
+like_same_kept link lives u v manager t p e h = record {
+  packets = h.packets;
+  ways = h.ways;
+  lives_are = h.lives_are;
+  drawn = h.drawn;
+  history = h.history;
+  unit_is = some_unit v p.low.kept p.high.kept
+      (subst (λ k. IsUnit k p.low.kept p.high.kept) (sym e) (h.unit_is u refl));
+  manager_is = h.manager_is;
+}

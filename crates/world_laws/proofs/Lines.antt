@@ -1,6 +1,5 @@
 -- Each line of a script is moves, and so is a script.
-use Rattle.std.proofs.Common.{◌≡◌, ◌≢◌, ℕ, zero, suc, ◌+◌, ◌-◌, Bool, true, false, ◌&&◌, List, [], ◌∷◌, ◌++◌, length, Option, Some, None, slice_get, ◌⊎◌, inl, inr, refl, sym, ap, subst, ◌∙◌, nat_le}
-use Rattle.std.proofs.lemmas.Option.{same_Some}
+use Rattle.std.proofs.Common.{◌≡◌, ◌≢◌, ℕ, zero, suc, ◌+◌, ◌-◌, Bool, true, false, ◌&&◌, List, [], ◌∷◌, length, Option, Some, None, slice_get, ◌⊎◌, inl, inr, refl, sym, ap, subst, ◌∙◌, nat_le}
 use Rattle.std.specs.Prelude.{map}
 use Rattle.omci_types.specs.declared.Frame.{Frame}
 use Rattle.omci_types.specs.declared.Priority.{Priority}
@@ -9,29 +8,30 @@ use Rattle.tci_spec.specs.Tci.{IsNumber, priority_of, packet_tci}
 use Rattle.message_spec.specs.declared.Request.TheVariants as request
 use Rattle.frame_spec.specs.Baseline.{fault_of}
 use Rattle.frame_spec.specs.Widths.{filled}
-use Rattle.script_spec.specs.Script.{Action, Probe, Reset, Get, Create, Set, Delete, Deliver, Flow, NoiseUnit, NoiseOlt, Tick, CutUnit, CutOlt, StartUnit, StartOlt}
+use Rattle.script_spec.specs.Script.{Action, Probe, Reset, Get, Create, Set, Delete, Resync, Check, Deliver, Flow, NoiseUnit, NoiseOlt, Tick, CutUnit, CutOlt, StartUnit, StartOlt}
 use Rattle.link_spec.specs.declared.Direction.{Direction}
 use Rattle.link_spec.specs.declared.Direction.TheVariants.{Down, Up}
 use Rattle.link_spec.specs.Link.{Sent, Link, Ways, way_in, way_of, lane_of, is_young, may_come, if_may_come, allowed_one, allowed, count, delivered_on}
-use Rattle.lane_spec.specs.Command.{sync_entity}
-use Rattle.lane_spec.specs.Lane.{Waiting, ended}
-use Rattle.manager_spec.specs.declared.Report.{Report}
-use Rattle.manager_spec.specs.declared.Report.TheVariants as report
-use Rattle.manager_spec.specs.Manager.{Manager, Outcome, lane_in, with_lane, with_report, packet_dropped, reply_report, manager_started, after_packet}
+use Rattle.lane_spec.specs.Command.{sync_entity, is_probe}
+use Rattle.lane_spec.specs.Lane.{Waiting}
+use Rattle.manager_spec.specs.Manager.{Manager, Outcome, lane_in, manager_started}
+use Rattle.manager_spec.specs.Resync.{job_goes_on}
+use Rattle.manager_spec.specs.Steps.{packet_dropped, after_packet}
 use Rattle.unit_spec.specs.Onu.{Onu, onu_started}
-use Rattle.history_spec.specs.History.{TookReply}
 use Rattle.moves_spec.specs.Channel.{Transaction, place_number, LinkPacket, RequestOf, ReplyTo, Unasked, Channel, lane_view}
 use Rattle.moves_spec.specs.Moves.{Move, UnitStarts, ManagerStarts, may_go_down, may_go_up, after_moves}
 use Rattle.moves_laws.proofs.Numbers.{number_at_first, place_is_number}
-use Rattle.world_spec.specs.Happenings.{PacketCame, Reported}
+use Rattle.world_spec.specs.Happenings.{PacketCame, ReplyTaken}
 use Rattle.world_spec.specs.Ends.{Step, preceded, manager_did, manager_got, unit_did, unit_got, arrives_at, arrives, noise, cut_unit, cut_manager, start_unit, start_manager}
-use Rattle.world_spec.specs.Nodes.{Nodes, delivered_one, delivered, nodes_after_step, goes_on, flow_from, oldest_fresh, flow, acted, counted, step}
-use Rattle.world_spec.specs.History.{Told, drawn_in, tell_all}
+use Rattle.world_spec.specs.Nodes.{Nodes, delivery_of, delivery, nodes_after_step, goes_on, flow_from, oldest_fresh, flow, acted, next_event, step}
+use Rattle.world_spec.specs.History.{Told, tell_all}
 use Rattle.world_laws.proofs.Tcis.{lane_of_tci}
-use Rattle.world_laws.proofs.Likeness.{tci_at, IsPacket, same_length, at_place, AreWays, Like, some_manager, some_unit, Follows, like_unmanaged, like_reports, after_both}
+use Rattle.world_laws.proofs.Likeness.{tci_at, IsPacket, same_length, at_place, AreWays, Like, some_manager, some_unit, Follows, like_unmanaged}
 use Rattle.world_laws.proofs.Unit.{noise_received}
-use Rattle.world_laws.proofs.Manager.{taken_by, IsTaken, hearing_is, noise_heard}
-use Rattle.world_laws.proofs.Turns.{Rests, StepFollows, no_step, not_enabled_step, link_append, tell_append, probe_follows, submit_follows, second_follows}
+use Rattle.world_laws.proofs.Keeping.{taken_lanes, IsTaking, taking_is, takes_one}
+use Rattle.world_laws.proofs.Manager.{freed_lane, meant_by, taken_by, IsTaken, hearing_is, noise_heard}
+use Rattle.world_laws.proofs.Following.{Happens, then_happens, sends_none, both_follow, outcome_happens}
+use Rattle.world_laws.proofs.Turns.{Rests, StepFollows, no_step, not_enabled_step, own_follows, probe_follows, submit_follows, check_follows, resync_follows, job_follows, second_follows}
 use Rattle.world_laws.proofs.Arrivals.{name_is_at, came_told, Stands, unit_follows}
 use Rattle.world_laws.proofs.Taking.{Returns, dropped_up, told_taken, taken_up}
 
@@ -87,74 +87,66 @@ unit_arrives : (l : Priority) (tr : Transaction) (i : ℕ) (s : Sent) (o : Optio
     p
 unit_arrives l tr i s None n t p h e a = not_enabled_step n t p h
 unit_arrives l tr i s (Some u) n t p h e a =
-    let f = unit_follows l tr i s n.link n.ends.lives u n.ends.manager t p a
-    (subst (λ x. Like n.link n.ends.lives x n.ends.manager t p) e h.like) in
-    (f.0, record { like = f.1; reports = h.reports })
+    unit_follows l tr i s n.link n.ends.lives u n.ends.manager t p a
+    (subst (λ x. Like n.link n.ends.lives x n.ends.manager t p) e h)
 
 -- ---- a packet comes to the manager
 
-no_reports : (m n : Manager) → Some (record m { reports = [] }) ≡ Some n → n.reports ≡ []
-no_reports m n e = ap (λ x. x.reports) (sym (same_Some (record m { reports = [] }) n e))
+-- it comes, and is taken as a reply
+came_taken : (probe : Bool) (l : Priority) (i : ℕ) (s : Sent) (link : Link) (lives : ℕ)
+    (unit : Option Onu) (manager : Option Manager) (t : Told) (p : Channel)
+    → Follows (delivered_on i s link) lives unit manager (told_taken probe l (came_told i s t)) p
+    → Happens (PacketCame i s ∷ map ReplyTaken (taken_lanes probe l)) link lives unit manager t p
+came_taken true l i s link lives unit manager t p f = f
+came_taken false l i s link lives unit manager t p f = f
 
--- what the manager did with one packet is reported once
-one_report : (r : Report) (x m : Manager) (i : ℕ) (s : Sent) (n : Nodes) (t u : Told) (p : Channel)
-    → x.reports ≡ []
-    → tell_all (Reported r ∷ []) (came_told i s t) ≡ u
-    → Follows (delivered_on i s n.link) n.ends.lives n.ends.unit (Some x) u p
-    → StepFollows
-    (preceded (PacketCame i s ∷ [])
-    (manager_did (record { manager = with_report r x; sendings = [] }) n.ends)) n t p
-one_report r x m i s n t u p e told f =
-    subst (λ rs. StepFollows (record {
-      ends = record n.ends { manager = Some (record x { reports = [] }) };
-      happenings = PacketCame i s ∷ (map Reported (rs ++ r ∷ []) ++ []);
-    }) n t p) (sym e) (
-      f.0,
-      record {
-        like = subst
-            (λ y. Like (delivered_on i s n.link) n.ends.lives n.ends.unit
-            (Some (record x { reports = [] })) y (after_moves f.0 p)) (sym told)
-            (like_reports [] _ _ _ x _ _ f.1);
-        reports = λ y q. no_reports x y q;
-      },
-    )
+reply_arrives : (l : Priority) (tr : Transaction) (i : ℕ) (s : Sent) (f : Frame) (w : Waiting)
+    (m : Manager) (n : Nodes) (t : Told) (p : Channel) → Rests n t p → n.ends.manager ≡ Some m
+    → Returns l tr i s p → (lane_in l m).outstanding ≡ Some w → packet_tci s.bytes ≡ w.tci
+    → StepFollows (preceded (PacketCame i s ∷ []) (manager_did (taken_by l f w m) n.ends)) n t p
+reply_arrives l tr i s f w m n t p h e a waits same =
+    outcome_happens (PacketCame i s ∷ []) x (taken_by l f w m) n.link n.ends.lives n.ends.unit t p
+    (subst
+    (λ ls. Happens (PacketCame i s ∷ map ReplyTaken ls) n.link n.ends.lives n.ends.unit (Some x) t
+    p) (sym (takes_one probe l meant k.taken))
+    (came_taken probe l i s n.link n.ends.lives n.ends.unit (Some x) t p
+    (taken_up l tr i s w probe n.link n.ends.lives n.ends.unit m t p a
+    (subst (λ y. Like n.link n.ends.lives n.ends.unit y t p) e h) waits same refl)))
+    (both_follow x meant job_goes_on (sends_none x meant k.same k.sends)
+    (job_follows meant.manager))
+  where
+    x : Manager
+    x = freed_lane l w m
 
-taken_told : (probe : Bool) (l : Priority) (f : Frame) (t : Told) → priority_of f.tci ≡ l
-    → tell_all (Reported (reply_report probe l f) ∷ []) t ≡ told_taken probe l t
-taken_told true l f t e = refl
-taken_told false l f t e =
-    ap (λ k. record t { history = TookReply (drawn_in k t) t.packet ∷ t.history }) e
+    probe : Bool
+    probe = is_probe w.command.purpose
 
-reports_stay : (l : Priority) (w : Waiting) (m : Manager)
-    → (with_lane l (ended w (lane_in l m)) m).reports ≡ m.reports
-reports_stay Low w m = refl
-reports_stay High w m = refl
+    meant : Outcome
+    meant = meant_by l f w m
+
+    k : IsTaking probe f l x meant
+    k = taking_is w.command.purpose l w.command f x
 
 outcome_arrives : (l : Priority) (tr : Transaction) (i : ℕ) (s : Sent) (o : Outcome) (m : Manager)
     (n : Nodes) (t : Told) (p : Channel) → Rests n t p → n.ends.manager ≡ Some m
-    → Returns l tr i s p → (o ≡ packet_dropped m) ⊎ IsTaken (packet_tci s.bytes) m o
+    → Returns l tr i s p → (o ≡ packet_dropped m) ⊎ IsTaken s.bytes m o
     → StepFollows (preceded (PacketCame i s ∷ []) (manager_did o n.ends)) n t p
 outcome_arrives l tr i s o m n t p h e a (inl drops) =
     subst (λ x. StepFollows (preceded (PacketCame i s ∷ []) (manager_did x n.ends)) n t p)
     (sym drops)
-    (one_report report.Dropped m m i s n t _ p (h.reports m e) refl
+    (outcome_happens (PacketCame i s ∷ []) m (packet_dropped m) n.link n.ends.lives n.ends.unit t p
     (dropped_up l tr i s n.link n.ends.lives n.ends.unit m t p a
-    (subst (λ x. Like n.link n.ends.lives n.ends.unit x t p) e h.like)))
+    (subst (λ x. Like n.link n.ends.lives n.ends.unit x t p) e h))
+    (sends_none m (packet_dropped m) (record { low = refl; high = refl }) refl))
 outcome_arrives l tr i s o m n t p h e a (inr k) =
-    let lane : priority_of (packet_tci s.bytes) ≡ l = ap priority_of a.tci
+    let lane : priority_of k.frame.tci ≡ l = ap priority_of (k.tci_is ∙ a.tci)
     ∙ lane_of_tci l (place_number tr.place) (place_is_number tr.place) in
     let is : o ≡ taken_by l k.frame k.waiting m = k.is ∙ ap (λ x. taken_by x k.frame k.waiting m)
     lane in
     let waits : (lane_in l m).outstanding ≡ Some k.waiting =
     subst (λ x. (lane_in x m).outstanding ≡ Some k.waiting) lane k.waits in
     subst (λ x. StepFollows (preceded (PacketCame i s ∷ []) (manager_did x n.ends)) n t p) (sym is)
-    (one_report (reply_report k.waiting.command.probe l k.frame)
-    (with_lane l (ended k.waiting (lane_in l m)) m) m i s n t _ p
-    (reports_stay l k.waiting m ∙ h.reports m e)
-    (taken_told k.waiting.command.probe l k.frame (came_told i s t)
-    (ap priority_of k.tci_is ∙ lane))
-    (taken_up l tr i s k.waiting k.waiting.command.probe n.link n.ends.lives n.ends.unit m t p a
-    (subst (λ x. Like n.link n.ends.lives n.ends.unit x t p) e h.like) waits k.same refl))
+    (reply_arrives l tr i s k.frame k.waiting m n t p h e a waits (sym k.tci_is ∙ k.same))
 
 manager_arrives : (l : Priority) (tr : Transaction) (i : ℕ) (s : Sent) (o : Option Manager)
     (n : Nodes) (t : Told) (p : Channel) → Rests n t p → n.ends.manager ≡ o
@@ -183,8 +175,8 @@ packet_arrives i s name (RequestOf l tr) n t p h named at k may =
       way = k.0;
       tci = k.1;
       name = name_is_at t.names i name named ∙ k.2;
-      may = may_down l tr.place i s n.link p h.like.ways
-          (same_length n.link.packets t.names p.shared.packets h.like.packets) k.0 k.1 may;
+      may = may_down l tr.place i s n.link p h.ways
+          (same_length n.link.packets t.names p.shared.packets h.packets) k.0 k.1 may;
     }))
 packet_arrives i s name (ReplyTo l tr r) n t p h named at k may =
     direction_arrives Up i s n t p k.0
@@ -192,29 +184,29 @@ packet_arrives i s name (ReplyTo l tr r) n t p h named at k may =
       at = subst (λ x. slice_get p.shared.packets i ≡ Some (ReplyTo l tr x)) (sym k.3) at;
       way = k.0;
       tci = k.1;
-      may = may_up l tr.place i s n.link p h.like.ways
-          (same_length n.link.packets t.names p.shared.packets h.like.packets) k.0 k.1 may;
+      may = may_up l tr.place i s n.link p h.ways
+          (same_length n.link.packets t.names p.shared.packets h.packets) k.0 k.1 may;
     }))
 packet_arrives i s name Unasked n t p h named at k may = absurd k
 
 sent_arrives : (i : ℕ) (s : Sent) (b : Bool) (n : Nodes) (t : Told) (p : Channel) → Rests n t p
     → slice_get n.link.packets i ≡ Some s
     → may_come i (way_of s n.link.ways) (count n.link) ≡ b
-    → StepFollows (delivered_one (if_may_come b s) i n.ends) n t p
+    → StepFollows (delivery_of (if_may_come b s) i n.ends) n t p
 sent_arrives i s false n t p h e may = not_enabled_step n t p h
 sent_arrives i s true n t p h e may =
-    let a = at_place n.link.packets t.names p.shared.packets i s h.like.packets e in
+    let a = at_place n.link.packets t.names p.shared.packets i s h.packets e in
     packet_arrives i s a.name a.packet n t p h a.name_is a.packet_is a.like may
 
 place_delivers : (i : ℕ) (o : Option Sent) (n : Nodes) (t : Told) (p : Channel) → Rests n t p
     → slice_get n.link.packets i ≡ o
-    → StepFollows (delivered_one (allowed_one i o n.link.ways (count n.link)) i n.ends) n t p
+    → StepFollows (delivery_of (allowed_one i o n.link.ways (count n.link)) i n.ends) n t p
 place_delivers i None n t p h e = not_enabled_step n t p h
 place_delivers i (Some s) n t p h e = sent_arrives i s _ n t p h e refl
 
 delivery_follows : (i : ℕ) (n : Nodes) (t : Told) (p : Channel) → Rests n t p
-    → StepFollows (delivered i n) n t p
-unfolding delivered allowed
+    → StepFollows (delivery i n) n t p
+unfolding delivery allowed
 delivery_follows i n t p h = place_delivers i _ n t p h refl
 
 -- one step, and then another
@@ -224,27 +216,20 @@ then_follow : (s : Step) (rest : Nodes → Step) (n : Nodes) (t : Told) (p : Cha
     → StepFollows (rest (nodes_after_step s n)) (nodes_after_step s n) u q)
     → StepFollows (goes_on rest s n) n t p
 then_follow s rest n t p one two =
-    let m = nodes_after_step s n in
-    let next = two _ _ one.1 in
-    let r = rest m in (
-      one.0 ++ next.0,
-      subst (λ l. Rests (record { ends = r.ends; link = l })
-          (tell_all (s.happenings ++ r.happenings) t) (after_moves (one.0 ++ next.0) p))
-          (sym (link_append s.happenings r.happenings n.link))
-          (subst (λ u. Rests (nodes_after_step r m) u (after_moves (one.0 ++ next.0) p))
-          (sym (tell_append s.happenings r.happenings t))
-          (subst (λ q. Rests (nodes_after_step r m)
-          (tell_all r.happenings (tell_all s.happenings t)) q)
-          (sym (after_both one.0 next.0 p)) next.1)),
-    )
+    then_happens s.happenings r.happenings n.link s.ends.lives r.ends.lives s.ends.unit
+    r.ends.unit s.ends.manager r.ends.manager t p one
+    (λ q k. two (tell_all s.happenings t) q k)
+  where
+    r : Step
+    r = rest (nodes_after_step s n)
 
 flow_by : (o : Option ℕ) (times : ℕ) (n : Nodes) (t : Told) (p : Channel) → Rests n t p
     → ((m : Nodes) (u : Told) (q : Channel) → Rests m u q → StepFollows (flow times m) m u q)
     → StepFollows (flow_from o (flow times) n) n t p
 flow_by None times n t p h rest = no_step n t p h
 flow_by (Some i) times n t p h rest =
-    then_follow (delivered i n) (flow times) n t p (delivery_follows i n t p h)
-    (λ u q k. rest (nodes_after_step (delivered i n) n) u q k)
+    then_follow (delivery i n) (flow times) n t p (delivery_follows i n t p h)
+    (λ u q k. rest (nodes_after_step (delivery i n) n) u q k)
 
 flow_follows : (times : ℕ) (n : Nodes) (t : Told) (p : Channel) → Rests n t p
     → StepFollows (flow times n) n t p
@@ -260,13 +245,8 @@ unit_noise : (bytes : List ℕ) (o : Option Onu) (n : Nodes) (t : Told) (p : Cha
 unit_noise bytes None n t p h e f = not_enabled_step n t p h
 unit_noise bytes (Some u) n t p h e f =
     subst (λ r. StepFollows (preceded [] (unit_did r u n.ends)) n t p)
-    (sym (noise_received bytes u f)) (
-      [],
-      record {
-        like = subst (λ x. Like n.link n.ends.lives x n.ends.manager t p) e h.like;
-        reports = h.reports;
-      },
-    )
+    (sym (noise_received bytes u f))
+    ([], subst (λ x. Like n.link n.ends.lives x n.ends.manager t p) e h)
 
 manager_noise : (bytes : List ℕ) (o : Option Manager) (n : Nodes) (t : Told) (p : Channel)
     → Rests n t p → n.ends.manager ≡ o → fault_of bytes ≢ None
@@ -275,17 +255,8 @@ manager_noise bytes None n t p h e f = not_enabled_step n t p h
 manager_noise bytes (Some m) n t p h e f =
     subst (λ o. StepFollows (preceded [] (manager_did o n.ends)) n t p)
     (sym (noise_heard bytes m f))
-    (subst (λ rs. StepFollows (record {
-      ends = record n.ends { manager = Some (record m { reports = [] }) };
-      happenings = map Reported (rs ++ report.Dropped ∷ []) ++ [];
-    }) n t p) (sym (h.reports m e)) (
-      [],
-      record {
-        like = like_reports [] _ _ _ m _ _
-            (subst (λ x. Like n.link n.ends.lives n.ends.unit x t p) e h.like);
-        reports = λ y q. no_reports m y q;
-      },
-    ))
+    (own_follows (packet_dropped m) m n t p h e refl
+    (sends_none m (packet_dropped m) (record { low = refl; high = refl }) refl))
 
 noise_down_follows : (bytes : List ℕ) (n : Nodes) (t : Told) (p : Channel) → Rests n t p
     → fault_of bytes ≢ None → StepFollows (noise Down bytes n.ends) n t p
@@ -305,50 +276,39 @@ cut_unit_follows None n t p h = not_enabled_step n t p h
 cut_unit_follows (Some u) n t p h = (
   [],
   record {
-    like = record {
-      packets = h.like.packets;
-      ways = h.like.ways;
-      lives_are = h.like.lives_are;
-      drawn = h.like.drawn;
-      history = h.like.history;
-      unit_is = λ x e. absurd (cc);
-      manager_is = h.like.manager_is;
-    };
-    reports = h.reports;
+    packets = h.packets;
+    ways = h.ways;
+    lives_are = h.lives_are;
+    drawn = h.drawn;
+    history = h.history;
+    unit_is = λ x e. absurd (cc);
+    manager_is = h.manager_is;
   },
 )
 
 cut_manager_follows : (o : Option Manager) (n : Nodes) (t : Told) (p : Channel) → Rests n t p
     → StepFollows (cut_manager o n.ends) n t p
 cut_manager_follows None n t p h = not_enabled_step n t p h
-cut_manager_follows (Some m) n t p h = (
-  [],
-  record {
-    like = like_unmanaged n.link n.ends.lives n.ends.unit n.ends.manager t p h.like;
-    reports = λ x e. absurd (cc);
-  },
-)
+cut_manager_follows (Some m) n t p h =
+    ([], like_unmanaged n.link n.ends.lives n.ends.unit n.ends.manager t p h)
 
 start_unit_follows : (o : Option Onu) (n : Nodes) (t : Told) (p : Channel) → Rests n t p
     → StepFollows (start_unit o n.ends) n t p
 unfolding onu_started
 start_unit_follows (Some u) n t p h = not_enabled_step n t p h
 start_unit_follows None n t p h =
-    let k = same_length n.link.packets t.names p.shared.packets h.like.packets in (
+    let k = same_length n.link.packets t.names p.shared.packets h.packets in (
       UnitStarts ∷ [],
       record {
-        like = record {
-          packets = h.like.packets;
-          ways = record { down_low = k; down_high = k; up_low = k; up_high = k };
-          lives_are = ap (λ x. x + 1) h.like.lives_are;
-          drawn = h.like.drawn;
-          history = h.like.history;
-          unit_is = some_unit (onu_started n.ends.software) None None
-              (record { is_low = tt; is_high = tt });
-          manager_is = λ m e. let q =
-              h.like.manager_is m e in record { is_low = q.is_low; is_high = q.is_high };
-        };
-        reports = h.reports;
+        packets = h.packets;
+        ways = record { down_low = k; down_high = k; up_low = k; up_high = k };
+        lives_are = ap (λ x. x + 1) h.lives_are;
+        drawn = h.drawn;
+        history = h.history;
+        unit_is = some_unit (onu_started n.ends.software) None None
+            (record { is_low = tt; is_high = tt });
+        manager_is = λ m e.
+            let q = h.manager_is m e in record { is_low = q.is_low; is_high = q.is_high };
       },
     )
 
@@ -357,28 +317,21 @@ start_manager_follows : (low high : ℕ) (o : Option Manager) (n : Nodes) (t : T
     → StepFollows (start_manager low high o n.ends) n t p
 start_manager_follows low high (Some m) n t p a b h = not_enabled_step n t p h
 start_manager_follows low high None n t p a b h =
-    let k = same_length n.link.packets t.names p.shared.packets h.like.packets in (
+    let k = same_length n.link.packets t.names p.shared.packets h.packets in (
       ManagerStarts (low - 1) (high - 1) ∷ [],
       record {
-        like = record {
-          packets = h.like.packets;
-          ways = record { down_low = k; down_high = k; up_low = k; up_high = k };
-          lives_are = h.like.lives_are;
-          drawn = h.like.drawn;
-          history = h.like.history;
-          unit_is = h.like.unit_is;
-          manager_is = some_manager t.low t.high (manager_started low high) _ _ (record {
-            is_low = record {
-              priority = refl;
-              proved_is = refl;
-              out =
-                  sym (number_at_first low a);
-            };
-            is_high =
-                record { priority = refl; proved_is = refl; out = sym (number_at_first high b) };
-          });
-        };
-        reports = λ m e. ap (λ x. x.reports) (sym (same_Some (manager_started low high) m e));
+        packets = h.packets;
+        ways = record { down_low = k; down_high = k; up_low = k; up_high = k };
+        lives_are = h.lives_are;
+        drawn = h.drawn;
+        history = h.history;
+        unit_is = h.unit_is;
+        manager_is = some_manager t.low t.high (manager_started low high) _ _ (record {
+          is_low =
+              record { priority = refl; proved_is = refl; out = sym (number_at_first low a) };
+          is_high =
+              record { priority = refl; proved_is = refl; out = sym (number_at_first high b) };
+        });
       },
     )
 
@@ -389,18 +342,7 @@ abbrev pub IsFair : Action → Type 0
 IsFair (StartOlt low high) = IsNumber low × IsNumber high
 IsFair (NoiseUnit bytes) = fault_of bytes ≢ None
 IsFair (NoiseOlt bytes) = fault_of bytes ≢ None
-IsFair (Probe lane) = Unit {0}
-IsFair (Reset lane) = Unit {0}
-IsFair (Get lane entity mask) = Unit {0}
-IsFair (Create lane entity values) = Unit {0}
-IsFair (Set lane entity mask values) = Unit {0}
-IsFair (Delete lane entity) = Unit {0}
-IsFair (Deliver number) = Unit {0}
-IsFair (Flow times) = Unit {0}
-IsFair Tick = Unit {0}
-IsFair CutUnit = Unit {0}
-IsFair CutOlt = Unit {0}
-IsFair StartUnit = Unit {0}
+IsFair _ = Unit {0}
 
 acted_follows : (a : Action) (n : Nodes) (t : Told) (p : Channel) → Rests n t p → IsFair a
     → StepFollows (acted a n) n t p
@@ -416,6 +358,8 @@ acted_follows (Set lane entity mask values) n t p h f =
     submit_follows lane entity (request.Set mask (filled 30 values)) n.ends.manager n t p h refl
 acted_follows (Delete lane entity) n t p h f = submit_follows lane entity request.Delete
     n.ends.manager n t p h refl
+acted_follows Resync n t p h f = resync_follows n.ends.manager n t p h refl
+acted_follows Check n t p h f = check_follows n.ends.manager n t p h refl
 acted_follows (Deliver number) n t p h f = delivery_follows number n t p h
 acted_follows (Flow times) n t p h f = flow_follows times n t p h
 acted_follows (NoiseUnit bytes) n t p h f = noise_down_follows bytes n t p h f
@@ -427,13 +371,9 @@ acted_follows StartUnit n t p h f = start_unit_follows n.ends.unit n t p h
 acted_follows (StartOlt low high) n t p h f = start_manager_follows low high n.ends.manager n t p
     f.0 f.1 h
 
--- the count of lines doesn't matter
-counted_rests : (n : Nodes) (t : Told) (p : Channel) → Rests n t p → Rests (counted n) t p
-counted_rests n t p h = record { like = h.like; reports = h.reports }
-
 -- a line of the script is moves
 pub turn_follows : (a : Action) (n : Nodes) (t : Told) (p : Channel) → Rests n t p → IsFair a
     → (ms : List Move) × Rests (step a n).nodes (tell_all (step a n).happenings t)
     (after_moves ms p)
 unfolding step
-turn_follows a n t p h f = acted_follows a (counted n) t p (counted_rests n t p h) f
+turn_follows a n t p h f = acted_follows a (next_event n) t p h f

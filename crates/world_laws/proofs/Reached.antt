@@ -2,15 +2,18 @@
 -- script.
 use Rattle.std.proofs.Common.{◌≡◌, ◌≢◌, ℕ, ◌-◌, ◌≤◌, Bool, true, false, Option, Some, None, slice_get, ◌⊎◌, inl, inr, refl, sym, ap, subst, ◌∙◌}
 use Rattle.std.proofs.lemmas.Option.{same_Some}
+use Rattle.std.specs.List.{Contains}
 use Rattle.omci_types.specs.declared.Priority.{Priority}
 use Rattle.tci_spec.specs.Tci.{priority_of, tci_of, packet_tci}
 use Rattle.link_spec.specs.declared.Direction.TheVariants.{Down, Up}
 use Rattle.link_spec.specs.Link.{Sent, Link, Ways, way_of, lane_of, may_come, if_may_come, allowed_one, allowed, count}
 use Rattle.retry_spec.specs.Kept.{Reply, kept_in}
+use Rattle.lane_spec.specs.Command.{is_probe}
 use Rattle.lane_spec.specs.Lane.{Lane, Waiting}
 use Rattle.manager_spec.specs.Manager.{Manager, lane_in}
+use Rattle.unit_spec.specs.declared.Note.{Note}
 use Rattle.unit_spec.specs.declared.Did.TheVariants as did
-use Rattle.unit_spec.specs.Onu.{Onu, Reception, dropped, unless_kept}
+use Rattle.unit_spec.specs.Onu.{Onu, Reception, drop_packet, unless_kept}
 use Rattle.history_spec.specs.History.{WasCarried, LastReply}
 use Rattle.moves_spec.specs.Channel.{Transaction, LinkPacket, RequestOf, ReplyTo, Unasked, KeptReply, Outstanding, LaneState, Channel, lane_view, first_channel}
 use Rattle.moves_spec.specs.Moves.{after_moves}
@@ -75,6 +78,7 @@ record GoesDown (l : Priority) (i : ℕ) (s : Sent) (t : Told) (p : Channel) : T
   may : moves.MayGoDown l p i transaction
   tci : packet_tci s.bytes ≡ tci_at l transaction.place
   name : name_at i t.names ≡ transaction.id
+  own : Contains transaction.packets s.bytes
 
 request_down : (l : Priority) (i : ℕ) (s : Sent) (name : ℕ) (y : LinkPacket) (n : Nodes) (t : Told)
     (p : Channel) → Rests n t p
@@ -86,11 +90,12 @@ request_down l i s name (RequestOf k tr) n t p h lane way named at q may =
       transaction = tr;
       may = record {
         request = at;
-        may = may_down k tr.place i s n.link p h.like.ways
-            (same_length n.link.packets t.names p.shared.packets h.like.packets) q.0 q.1 may;
+        may = may_down k tr.place i s n.link p h.ways
+            (same_length n.link.packets t.names p.shared.packets h.packets) q.0 q.1 may;
       };
       tci = q.1;
       name = name_is_at t.names i name named ∙ q.2;
+      own = q.3;
     })
 request_down l i s name (ReplyTo k tr r) n t p h lane way named at q may =
     absurd (let a = q.0 in cc)
@@ -100,7 +105,7 @@ goes_down : (l : Priority) (i : ℕ) (s : Sent) (n : Nodes) (t : Told) (p : Chan
     → MayCome Down l n i s → GoesDown l i s t p
 goes_down l i s n t p h m =
     let a = allowed_is i n.link s m.may in
-    let b = at_place n.link.packets t.names p.shared.packets i s h.like.packets a.0 in
+    let b = at_place n.link.packets t.names p.shared.packets i s h.packets a.0 in
     request_down l i s b.name b.packet n t p h m.in_lane m.goes b.name_is b.packet_is b.like a.1
 
 -- a reply
@@ -120,8 +125,8 @@ reply_up l i s name (ReplyTo k tr r) n t p h lane way named at q may =
       transaction = tr;
       may = record {
         reply = subst (λ x. slice_get p.shared.packets i ≡ Some (ReplyTo k tr x)) (sym q.3) at;
-        may = may_up k tr.place i s n.link p h.like.ways
-            (same_length n.link.packets t.names p.shared.packets h.like.packets) q.0 q.1 may;
+        may = may_up k tr.place i s n.link p h.ways
+            (same_length n.link.packets t.names p.shared.packets h.packets) q.0 q.1 may;
       };
       tci = q.1;
       name = name_is_at t.names i name named ∙ q.2;
@@ -133,30 +138,30 @@ goes_up : (l : Priority) (i : ℕ) (s : Sent) (n : Nodes) (t : Told) (p : Channe
     → MayCome Up l n i s → GoesUp l i s t p
 goes_up l i s n t p h m =
     let a = allowed_is i n.link s m.may in
-    let b = at_place n.link.packets t.names p.shared.packets i s h.like.packets a.0 in
+    let b = at_place n.link.packets t.names p.shared.packets i s h.packets a.0 in
     reply_up l i s b.name b.packet n t p h m.in_lane m.goes b.name_is b.packet_is b.like a.1
 
 -- ---- what the unit carries out
 
-asked_differs : (l : Priority) (tci : ℕ) (r : Reception) (u : Onu) → priority_of tci ≡ l → r.did
-    ≡ did.Carried → (k : IsAsked tci u r)
+asked_differs : (l : Priority) (tci : ℕ) (what : Option Note) (r : Reception) (u : Onu)
+    → priority_of tci ≡ l → r.did ≡ did.Carried what → (k : IsAsked tci u r)
     → KeepsIt k.frame.tci (kept_in l u.kept) ⊎ KeepsOther k.frame.tci (kept_in l u.kept)
     → (q : Reply) → kept_in l u.kept ≡ Some q → q.tci ≢ tci
-asked_differs l tci r u lane does k (inl it) q is =
+asked_differs l tci what r u lane does k (inl it) q is =
     let keeps_it : r ≡ record { unit = u; did = did.Kept; reply = it.reply.packet } =
     k.is ∙ asked_is k.frame k.answer u
     ∙ ap (λ o. unless_kept o k.frame.tci k.answer u)
     (kept_for_is l k.frame.tci u.kept (ap priority_of k.same ∙ lane) ∙ it.answers) in
     absurd (let a : r.did ≡ did.Kept = ap (λ (x : Reception). x.did) keeps_it in cc)
-asked_differs l tci r u lane does k (inr other) q is =
+asked_differs l tci what r u lane does k (inr other) q is =
     subst (λ x. q.tci ≢ x) k.same (other.differs q is)
 
-carried_differs : (l : Priority) (tci : ℕ) (r : Reception) (u : Onu) → priority_of tci ≡ l → r.did
-    ≡ did.Carried
-    → (r ≡ dropped u) ⊎ IsAsked tci u r → (q : Reply) → kept_in l u.kept ≡ Some q → q.tci ≢ tci
-carried_differs l tci r u lane does (inl drops) =
+carried_differs : (l : Priority) (tci : ℕ) (what : Option Note) (r : Reception) (u : Onu)
+    → priority_of tci ≡ l → r.did ≡ did.Carried what
+    → (r ≡ drop_packet u) ⊎ IsAsked tci u r → (q : Reply) → kept_in l u.kept ≡ Some q → q.tci ≢ tci
+carried_differs l tci what r u lane does (inl drops) =
     absurd (let a : r.did ≡ did.Dropped = ap (λ (x : Reception). x.did) drops in cc)
-carried_differs l tci r u lane does (inr k) = asked_differs l tci r u lane does k
+carried_differs l tci what r u lane does (inr k) = asked_differs l tci what r u lane does k
     (keeps k.frame.tci (kept_in l u.kept))
 
 carried_down : (l : Priority) (i : ℕ) (s : Sent) (u : Onu) (n : Nodes) (t : Told) (p : Channel)
@@ -165,8 +170,9 @@ carried_down : (l : Priority) (i : ℕ) (s : Sent) (u : Onu) (n : Nodes) (t : To
 carried_down l i s u n t p h m g = record {
   comes = g.may;
   differs = λ k e same. has_other l (packet_tci s.bytes) (kept_in l u.kept) k
-      (subst (IsKept l (kept_in l u.kept)) e (kept_like l u.kept p (h.like.unit_is u m.on)))
-      (carried_differs l (packet_tci s.bytes) _ u m.comes.in_lane m.does (reception_is s.bytes u))
+      (subst (IsKept l (kept_in l u.kept)) e (kept_like l u.kept p (h.unit_is u m.on)))
+      (carried_differs l (packet_tci s.bytes) m.note _ u m.comes.in_lane m.does
+      (reception_is s.bytes u))
       (ap (tci_of l) same ∙ sym g.tci);
 }
 
@@ -174,7 +180,7 @@ pub is_fresh : (l : Priority) (n : Nodes) (t : Told) (i : ℕ) (s : Sent) (u : O
     → MayBeCarriedOut l n i s u
     → WasCarried n.ends.lives (name_at i t.names) t.history → ⊥
 is_fresh l n t i s u k m was =
-    let like = k.rests.like in
+    let like = k.rests in
     let g = goes_down l i s n t k.channel k.rests m.comes in
     carried_fresh l k.channel i g.transaction k.sound
     (carried_down l i s u n t k.channel k.rests m g)
@@ -204,15 +210,17 @@ pub is_awaited : (l : Priority) (n : Nodes) (t : Told) (i : ℕ) (s : Sent) (u :
     → (lane_in l m).proved ≡ true → MayBeCarriedOut l n i s u → IsAwaited l m t i s
 is_awaited l n t i s u m k on proved may =
     let g = goes_down l i s n t k.channel k.rests may.comes in
-    let lane = lane_like l t m k.channel (k.rests.like.manager_is m on) in
+    let lane = lane_like l t m k.channel (k.rests.manager_is m on) in
     let a = carried_awaited l k.channel i g.transaction k.sound (sym lane.proved_is ∙ proved)
     (carried_down l i s u n t k.channel k.rests may g) in
-    let w = waiting_for l (drawn_in l t) (lane_in l m) (lane_view l k.channel).lane a.outstanding lane
-    a.waits in
+    let w = waiting_for l (drawn_in l t) (lane_in l m) (lane_view l k.channel).lane a.outstanding
+    lane a.waits in
     record {
       waiting = w.waiting;
       waits = w.is;
       same = g.tci ∙ ap (λ x. tci_at l x.place) (sym a.same) ∙ sym w.awaits.tci;
+      bytes = subst (λ ps. Contains ps s.bytes)
+          (ap (λ x. x.packets) (sym a.same) ∙ sym w.awaits.packets) g.own;
       name = g.name ∙ ap (λ x. x.id) (sym a.same) ∙ sym w.awaits.name;
     }
 
@@ -231,7 +239,7 @@ taken_up : (l : Priority) (i : ℕ) (s : Sent) (m : Manager) (w : Waiting) (n : 
 taken_up l i s m w n t p h may =
     let g = goes_up l i s n t p h may.comes in
     let k = busy l (drawn_in l t) (lane_in l m)
-    (lane_view l p).lane w (lane_like l t m p (h.like.manager_is m may.on)) may.waits in
+    (lane_view l p).lane w (lane_like l t m p (h.manager_is m may.on)) may.waits in
     record {
       goes = g;
       outstanding = k.outstanding;
@@ -257,7 +265,8 @@ name_of l i s m w t p sound a = ap (λ x. x.id) (own_of l i s m w t p sound a) �
 
 probe_of : (l : Priority) (i : ℕ) (s : Sent) (m : Manager) (w : Waiting) (t : Told) (p : Channel)
     → SoundChannel p
-    → (a : TakenUp l i s m w t p) → w.command.probe ≡ false → a.goes.transaction.probe ≡ false
+    → (a : TakenUp l i s m w t p) → is_probe w.command.purpose ≡ false
+    → a.goes.transaction.probe ≡ false
 probe_of l i s m w t p sound a e = ap (λ x. x.probe) (own_of l i s m w t p sound a)
     ∙ sym a.awaits.probe ∙ e
 
@@ -282,15 +291,15 @@ is_kept l n t i s m w u k may on =
     let q = taken_is_kept l k.channel i a.goes.transaction s.bytes a.outstanding k.sound a.may in
     keeps_tci l u w.tci (kept_in l u.kept) q.kept refl
     (subst (IsKept l (kept_in l u.kept)) q.is
-    (kept_like l u.kept k.channel (k.rests.like.unit_is u on)))
+    (kept_like l u.kept k.channel (k.rests.unit_is u on)))
     (ap (tci_of l) q.same ∙ sym a.goes.tci ∙ may.same)
 
 pub was_carried : (l : Priority) (n : Nodes) (t : Told) (i : ℕ) (s : Sent) (m : Manager)
     (w : Waiting) → Linked n t → MayBeTaken l n i s m w
-    → w.command.probe ≡ false → WasCarried n.ends.lives (drawn_in l t) t.history
+    → is_probe w.command.purpose ≡ false → WasCarried n.ends.lives (drawn_in l t) t.history
 was_carried l n t i s m w k may probe =
     let a = taken_up l i s m w n t k.channel k.rests may in
-    let like = k.rests.like in
+    let like = k.rests in
     subst (λ x. WasCarried n.ends.lives (drawn_in l t) x) (sym like.history)
     (subst (λ x. WasCarried x (drawn_in l t) k.channel.shared.history) (sym like.lives_are)
     (subst (λ x. WasCarried k.channel.shared.life x k.channel.shared.history)
@@ -300,10 +309,10 @@ was_carried l n t i s m w k may probe =
 
 pub is_last : (l : Priority) (n : Nodes) (t : Told) (i : ℕ) (s : Sent) (m : Manager) (w : Waiting)
     → Linked n t → MayBeTaken l n i s m w
-    → w.command.probe ≡ false → LastReply (drawn_in l t) s.bytes t.history
+    → is_probe w.command.purpose ≡ false → LastReply (drawn_in l t) s.bytes t.history
 is_last l n t i s m w k may probe =
     let a = taken_up l i s m w n t k.channel k.rests may in
-    subst (λ x. LastReply (drawn_in l t) s.bytes x) (sym k.rests.like.history)
+    subst (λ x. LastReply (drawn_in l t) s.bytes x) (sym k.rests.history)
     (subst (λ x. LastReply x s.bytes k.channel.shared.history)
     (name_of l i s m w t k.channel k.sound a)
     (taken_is_last l k.channel i a.goes.transaction s.bytes a.outstanding k.sound a.may

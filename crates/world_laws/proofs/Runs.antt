@@ -1,10 +1,9 @@
 -- The history of a script is that of some list of moves, so it keeps both laws.
-use Rattle.std.proofs.Common.{◌-◌, List, [], ◌∷◌, ◌++◌, None, refl, sym, ap, subst}
-use Rattle.std.proofs.lemmas.Option.{same_Some}
+use Rattle.std.proofs.Common.{◌-◌, List, [], ◌∷◌, ◌++◌, None, refl, sym, subst}
 use Rattle.std.proofs.lemmas.List.Elements.{All-head, All-tail}
 use Rattle.std.specs.List.{All}
 use Rattle.tci_spec.specs.Tci.{IsNumber}
-use Rattle.script_spec.specs.Script.{Header, Action, Probe, Reset, Get, Create, Set, Delete, Deliver, Flow, NoiseUnit, NoiseOlt, Tick, CutUnit, CutOlt, StartUnit, StartOlt, IsAction}
+use Rattle.script_spec.specs.Script.{Header, Action, NoiseUnit, NoiseOlt, StartOlt, IsAction}
 use Rattle.manager_spec.specs.Manager.{manager_started}
 use Rattle.unit_spec.specs.Onu.{onu_started}
 use Rattle.history_spec.specs.History.{Once, Answered}
@@ -29,18 +28,7 @@ fair (StartOlt low high) h =
     (record { some = h.0.0; most = h.0.1 }, record { some = h.1.0.0; most = h.1.0.1 })
 fair (NoiseUnit bytes) h = h.0.0
 fair (NoiseOlt bytes) h = h.0.0
-fair (Probe lane) h = tt
-fair (Reset lane) h = tt
-fair (Get lane entity mask) h = tt
-fair (Create lane entity values) h = tt
-fair (Set lane entity mask values) h = tt
-fair (Delete lane entity) h = tt
-fair (Deliver number) h = tt
-fair (Flow times) h = tt
-fair Tick h = tt
-fair CutUnit h = tt
-fair CutOlt h = tt
-fair StartUnit h = tt
+fair _ h = tt
 
 pub all_fair : (actions : List Action) → All IsAction actions → AllFair actions
 all_fair [] h = tt
@@ -67,20 +55,17 @@ pub first_rests : (h : Header) → IsNumber h.low → IsNumber h.high → Rests 
     (first_channel (h.low - 1) (h.high - 1))
 unfolding onu_started
 first_rests h a b = record {
-  like = record {
-    packets = tt;
-    ways = record { down_low = refl; down_high = refl; up_low = refl; up_high = refl };
-    lives_are = refl;
-    drawn = refl;
-    history = refl;
-    unit_is = some_unit (onu_started (factory_software h.factory)) None None
-        (record { is_low = tt; is_high = tt });
-    manager_is = some_manager 0 0 (manager_started h.low h.high) _ _ (record {
-      is_low = record { priority = refl; proved_is = refl; out = sym (number_at_first h.low a) };
-      is_high = record { priority = refl; proved_is = refl; out = sym (number_at_first h.high b) };
-    });
-  };
-  reports = λ m e. ap (λ x. x.reports) (sym (same_Some (manager_started h.low h.high) m e));
+  packets = tt;
+  ways = record { down_low = refl; down_high = refl; up_low = refl; up_high = refl };
+  lives_are = refl;
+  drawn = refl;
+  history = refl;
+  unit_is = some_unit (onu_started (factory_software h.factory)) None None
+      (record { is_low = tt; is_high = tt });
+  manager_is = some_manager 0 0 (manager_started h.low h.high) _ _ (record {
+    is_low = record { priority = refl; proved_is = refl; out = sym (number_at_first h.low a) };
+    is_high = record { priority = refl; proved_is = refl; out = sym (number_at_first h.high b) };
+  });
 }
 
 pub history_once : (h : Header) (actions : List Action) → IsNumber h.low → IsNumber h.high
@@ -88,11 +73,11 @@ pub history_once : (h : Header) (actions : List Action) → IsNumber h.low → I
 history_once h actions a b f =
     let run = script_follows actions (first_nodes h) first_told _ (first_rests h a b)
     (all_fair actions f) in
-    subst Once (sym run.1.like.history) (runs_once (h.low - 1) (h.high - 1) run.0)
+    subst Once (sym run.1.history) (runs_once (h.low - 1) (h.high - 1) run.0)
 
 pub history_answered : (h : Header) (actions : List Action) → IsNumber h.low → IsNumber h.high
     → All IsAction actions → Answered (history_of h actions)
 history_answered h actions a b f =
     let run = script_follows actions (first_nodes h) first_told _ (first_rests h a b)
     (all_fair actions f) in
-    subst Answered (sym run.1.like.history) (runs_answered (h.low - 1) (h.high - 1) run.0)
+    subst Answered (sym run.1.history) (runs_answered (h.low - 1) (h.high - 1) run.0)

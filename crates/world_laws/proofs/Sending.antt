@@ -1,24 +1,28 @@
 -- The manager draws a command and sends it, and sends it again.
 use Rattle.std.proofs.Common.{◌≡◌, ◌≢◌, ℕ, ◌+◌, ◌<◌, ◌^◌, Bool, true, false, List, [], ◌∷◌, ◌++◌, length, Option, Some, None, refl, sym, ap, subst, ◌∙◌, arith, length-append}
+use Rattle.std.proofs.lemmas.List.{append-nil}
+use Rattle.std.proofs.lemmas.List.Elements.{All-head, All-tail, All-contains_itself}
 use Rattle.std.specs.Prelude.{map}
+use Rattle.std.specs.List.{All, Contains}
 use Rattle.omci_types.specs.declared.Priority.{Priority}
 use Rattle.omci_types.specs.declared.Priority.TheVariants.{Low, High}
 use Rattle.tci_spec.specs.Tci.{number_after, tci_of, packet_tci}
 use Rattle.message_spec.specs.Reading.{plain}
 use Rattle.link_spec.specs.declared.Direction.TheVariants.{Down}
 use Rattle.link_spec.specs.Link.{Link, sent_on}
-use Rattle.lane_spec.specs.Command.{Command, command_frame, command_packets}
+use Rattle.lane_spec.specs.Command.{Command, command_frame, command_packets, is_probe}
 use Rattle.lane_spec.specs.Lane.{Lane, next_tci, with_command}
-use Rattle.manager_spec.specs.Manager.{Manager, lane_in, with_lane}
+use Rattle.manager_spec.specs.Manager.{Manager, lane_in, with_lane, command_sent}
 use Rattle.unit_spec.specs.Onu.{Onu}
 use Rattle.moves_spec.specs.Channel.{Transaction, place_number, RequestOf, Outstanding, LaneState, Channel, View, lane_view, with_lane_view}
-use Rattle.moves_spec.specs.Moves.{Draw, Send, drawn_transaction, outstanding_of, with_draw, draw_if, with_packet, with_requests, with_sent, send_if, after_move}
+use Rattle.moves_spec.specs.Moves.{Draw, Send, drawn_transaction, outstanding_of, with_draw, draw_if, with_packet, with_requests, with_sent, send_if, Move, after_move, after_moves}
 use Rattle.moves_laws.proofs.Numbers.{number_next, place_is_number}
 use Rattle.world_spec.specs.Happenings.{Happening, CommandDrawn, link_read}
-use Rattle.world_spec.specs.Ends.{goes_down}
+use Rattle.world_spec.specs.Ends.{goes_down, if_asked}
 use Rattle.world_spec.specs.History.{Told, drawn_in, draws_in, tell_all}
 use Rattle.world_laws.proofs.Tcis.{tci_fits, tci_spelled}
-use Rattle.world_laws.proofs.Likeness.{tci_at, one_more, IsLane, IsLaneOf, IsManager, Like, lane_like, idle, Follows, like_unmanaged, like_managed, one_lane}
+use Rattle.world_laws.proofs.Likeness.{tci_at, one_more, IsLane, IsLaneOf, IsManager, Like, lane_like, idle, like_unmanaged, like_managed, one_lane}
+use Rattle.world_laws.proofs.Following.{Happens, OutcomeFollows}
 
 -- ---- the packets of a command
 
@@ -43,17 +47,18 @@ packets_tci l place c =
 -- they go onto the link
 pub sends_like : (l : Priority) (tr : Transaction) (ps : List (List ℕ)) (link : Link) (lives : ℕ)
     (unit : Option Onu) (manager : Option Manager) (t : Told) (v : View) (p : Channel)
-    → HaveTci (tci_at l tr.place) ps → drawn_in l t ≡ tr.id
+    → HaveTci (tci_at l tr.place) ps → All (Contains tr.packets) ps → drawn_in l t ≡ tr.id
     → Like link lives unit manager t (with_lane_view l v p)
     → Like (link_read (map (goes_down l) ps) link) lives unit manager
     (tell_all (map (goes_down l) ps) t) (with_lane_view l (with_requests l tr ps v) p)
-sends_like l tr [] link lives unit manager t v p tcis name h = h
-sends_like Low tr (x ∷ ps) link lives unit manager t v p tcis name h =
+sends_like l tr [] link lives unit manager t v p tcis own name h = h
+sends_like Low tr (x ∷ ps) link lives unit manager t v p tcis own name h =
     sends_like Low tr ps (sent_on (record { direction = Down; bytes = x }) link) lives unit manager
     (record t { names = t.names ++ t.low ∷ [] }) (with_packet (RequestOf Low tr) v) p tcis.1
-    name
+    (All-tail (Contains tr.packets) x ps own) name
     (record {
-      packets = one_more _ _ _ _ _ _ h.packets (refl, tcis.0, name);
+      packets = one_more _ _ _ _ _ _ h.packets
+          (refl, tcis.0, name, All-head (Contains tr.packets) x ps own);
       ways = h.ways;
       lives_are = h.lives_are;
       drawn = h.drawn;
@@ -61,12 +66,13 @@ sends_like Low tr (x ∷ ps) link lives unit manager t v p tcis name h =
       unit_is = h.unit_is;
       manager_is = h.manager_is;
     })
-sends_like High tr (x ∷ ps) link lives unit manager t v p tcis name h =
+sends_like High tr (x ∷ ps) link lives unit manager t v p tcis own name h =
     sends_like High tr ps (sent_on (record { direction = Down; bytes = x }) link) lives unit manager
     (record t { names = t.names ++ t.high ∷ [] }) (with_packet (RequestOf High tr) v) p tcis.1
-    name
+    (All-tail (Contains tr.packets) x ps own) name
     (record {
-      packets = one_more _ _ _ _ _ _ h.packets (refl, tcis.0, name);
+      packets = one_more _ _ _ _ _ _ h.packets
+          (refl, tcis.0, name, All-head (Contains tr.packets) x ps own);
       ways = h.ways;
       lives_are = h.lives_are;
       drawn = h.drawn;
@@ -173,7 +179,8 @@ pub sent_like : (l : Priority) (o : Outstanding) (link : Link) (lives : ℕ) (un
 sent_like l o link lives unit t v p tcis name h =
     like_counted l _ lives unit _ (length o.transaction.packets) o
     (with_requests l o.transaction o.transaction.packets v) p
-    (sends_like l o.transaction o.transaction.packets link lives unit None t v p tcis name h)
+    (sends_like l o.transaction o.transaction.packets link lives unit None t v p tcis
+    (All-contains_itself o.transaction.packets) name h)
 
 -- the lane after it
 pub sent_lane : (l : Priority) (last : ℕ) (m : Lane) (o : Outstanding) (v : View)
@@ -236,22 +243,65 @@ draws_of_view : (l : Priority) (p : Channel) → (lane_view l p).shared ≡ p.sh
 draws_of_view Low p = refl
 draws_of_view High p = refl
 
-pub draw_follows : (l : Priority) (c : Command) (link : Link) (lives : ℕ) (unit : Option Onu)
-    (m : Manager) (t : Told) (p : Channel)
+-- ---- a command is drawn for which the job may ask for a snapshot
+
+-- what the history makes of it that the job asks
+abbrev told_asked : Bool → Priority → Told → Told
+told_asked true l t = record t { asking = drawn_in l t }
+told_asked false l t = t
+
+asked_link : (asks : Bool) (l : Priority) (hs : List Happening) (link : Link)
+    → link_read (if_asked asks l ++ hs) link ≡ link_read hs link
+asked_link true l hs link = refl
+asked_link false l hs link = refl
+
+asked_all : (asks : Bool) (l : Priority) (hs : List Happening) (t : Told)
+    → tell_all (if_asked asks l ++ hs) t ≡ tell_all hs (told_asked asks l t)
+asked_all true l hs t = refl
+asked_all false l hs t = refl
+
+asked_drawn : (asks : Bool) (k l : Priority) (t : Told)
+    → drawn_in k (told_asked asks l t) ≡ drawn_in k t
+asked_drawn true Low l t = refl
+asked_drawn true High l t = refl
+asked_drawn false k l t = refl
+
+asked_like : (asks : Bool) (l : Priority) (link : Link) (lives : ℕ) (unit : Option Onu)
+    (manager : Option Manager) (t : Told) (p : Channel) → Like link lives unit manager t p
+    → Like link lives unit manager (told_asked asks l t) p
+asked_like true l link lives unit manager t p h = record {
+  packets = h.packets;
+  ways = h.ways;
+  lives_are = h.lives_are;
+  drawn = h.drawn;
+  history = h.history;
+  unit_is = h.unit_is;
+  manager_is = h.manager_is;
+}
+asked_like false l link lives unit manager t p h = h
+
+abbrev drawn_deeds : Bool → Priority → Command → Manager → List Happening
+drawn_deeds asks l c m =
+    CommandDrawn l ∷ if_asked asks l
+    ++ map (goes_down l) (command_packets (next_tci (lane_in l m)) c)
+
+-- a command is drawn and sent
+drawn_happens : (asks : Bool) (l : Priority) (c : Command) (link : Link) (lives : ℕ)
+    (unit : Option Onu) (m : Manager) (t : Told) (p : Channel)
     → Like link lives unit (Some m) t p → (lane_in l m).outstanding ≡ None
-    → ((lane_in l m).proved ≡ false → c.probe ≡ true)
-    → (hs : List Happening) → hs ≡ CommandDrawn l ∷ map (goes_down l)
-    (command_packets (next_tci (lane_in l m)) c)
-    → Follows (link_read hs link) lives unit (Some (with_lane l (with_command c (lane_in l m)) m))
-    (tell_all hs t) p
-draw_follows l c link lives unit m t p h none allowed hs is =
-    subst (λ xs. Follows (link_read xs link) lives unit (Some (with_lane l (with_command c x) m))
-    (tell_all xs t) p) (sym is) (
-      Draw l c.probe ps ∷ Send l ∷ [],
-      subst
-          (λ q. Like (link_read goes link) lives unit (Some (with_lane l (with_command c x) m))
-          (tell_all goes u) q) (sym moves) like,
-    )
+    → ((lane_in l m).proved ≡ false → is_probe c.purpose ≡ true)
+    → Happens (drawn_deeds asks l c m) link lives unit
+    (Some (with_lane l (with_command c (lane_in l m)) m)) t p
+drawn_happens asks l c link lives unit m t p h none allowed = (
+  Draw l (is_probe c.purpose) ps ∷ Send l ∷ [],
+  subst (λ k. Like k lives unit (Some (with_lane l (with_command c x) m))
+      (tell_all (if_asked asks l ++ goes) (draws_in l t)) (after_moves made p))
+      (sym (asked_link asks l goes link))
+      (subst (λ w. Like (link_read goes link) lives unit (Some (with_lane l (with_command c x) m))
+      w (after_moves made p)) (sym (asked_all asks l goes (draws_in l t)))
+      (subst (λ q. Like (link_read goes link) lives unit (Some (with_lane l (with_command c x) m))
+      (tell_all goes u) q) (sym moves) like)),
+)
   where
     x : Lane
     x = lane_in l m
@@ -262,17 +312,20 @@ draw_follows l c link lives unit m t p h none allowed hs is =
     goes : List Happening
     goes = map (goes_down l) ps
 
+    made : List Move
+    made = Draw l (is_probe c.purpose) ps ∷ Send l ∷ []
+
     u : Told
-    u = draws_in l t
+    u = told_asked asks l (draws_in l t)
 
     s : LaneState
     s = (lane_view l p).lane
 
     v : View
-    v = with_draw l c.probe ps (lane_view l p)
+    v = with_draw l (is_probe c.purpose) ps (lane_view l p)
 
     o : Outstanding
-    o = outstanding_of (drawn_transaction c.probe ps (lane_view l p))
+    o = outstanding_of (drawn_transaction (is_probe c.purpose) ps (lane_view l p))
 
     managed : IsManager t.low t.high m p.low p.high
     managed = h.manager_is m refl
@@ -286,10 +339,10 @@ draw_follows l c link lives unit m t p h none allowed hs is =
     tci : next_tci x ≡ tci_at l s.place
     tci = ap (λ a. tci_of a x.next) lane.priority ∙ ap (tci_of l) free.1
 
-    moves : after_move (Send l) (after_move (Draw l c.probe ps) p)
+    moves : after_move (Send l) (after_move (Draw l (is_probe c.purpose) ps) p)
         ≡ with_lane_view l (sent_view l o v) p
     moves = ap (after_move (Send l))
-        (draw_moves l c.probe ps p free.0 (λ e. allowed (lane.proved_is ∙ e)))
+        (draw_moves l (is_probe c.purpose) ps p free.0 (λ e. allowed (lane.proved_is ∙ e)))
         ∙ send_moves l v p o refl
 
     id : t.drawn ≡ o.transaction.id
@@ -299,14 +352,18 @@ draw_follows l c link lives unit m t p h none allowed hs is =
     tcis = subst (λ n. HaveTci (tci_at l s.place) (command_packets n c)) (sym tci)
         (packets_tci l s.place c)
 
+    own : drawn_in l u ≡ o.transaction.id
+    own = asked_drawn asks l l (draws_in l t) ∙ draws_own l t ∙ id
+
     unmanaged : Like (link_read goes link) lives unit None (tell_all goes u)
         (with_lane_view l (sent_view l o v) p)
-    unmanaged = sent_like l o link lives unit u v p tcis (draws_own l t ∙ id)
-        (drawn_like l c.probe ps link lives unit t p
-        (like_unmanaged link lives unit (Some m) t p h))
+    unmanaged = sent_like l o link lives unit u v p tcis own
+        (asked_like asks l link lives unit None (draws_in l t) _
+        (drawn_like l (is_probe c.purpose) ps link lives unit t p
+        (like_unmanaged link lives unit (Some m) t p h)))
 
     last : drawn_in l (tell_all goes u) ≡ o.transaction.id
-    last = lasts_stay l l ps u ∙ draws_own l t ∙ id
+    last = lasts_stay l l ps u ∙ own
 
     after : IsLaneOf l (drawn_in l (tell_all goes u)) (with_command c x) (sent_view l o v).lane
     after = sent_lane l _ (with_command c x) o v (record {
@@ -327,4 +384,17 @@ draw_follows l c link lives unit m t p h none allowed hs is =
         (tell_all goes u) (with_lane_view l (sent_view l o v) p)
     like = like_managed _ lives unit _ _ _ unmanaged
         (one_lane l t (tell_all goes u) m (with_command c x)
-        (sent_view l o v) p managed (λ k ne. lasts_stay l k ps u ∙ draws_other l k t ne) after)
+        (sent_view l o v) p managed
+        (λ k ne. lasts_stay l k ps u ∙ asked_drawn asks k l (draws_in l t) ∙ draws_other l k t ne)
+        after)
+
+-- a command goes out over a lane that waits for none, and is proved but for a probe
+pub command_follows : (asks : Bool) (l : Priority) (c : Command) (m : Manager)
+    → (lane_in l m).outstanding ≡ None
+    → ((lane_in l m).proved ≡ false → is_probe c.purpose ≡ true)
+    → OutcomeFollows m (command_sent asks l c m)
+command_follows asks l c m none allowed = λ link lives unit t p h.
+    subst
+    (λ hs. Happens hs link lives unit (Some (with_lane l (with_command c (lane_in l m)) m)) t p)
+    (sym (append-nil (drawn_deeds asks l c m)))
+    (drawn_happens asks l c link lives unit m t p h none allowed)

@@ -6,7 +6,8 @@ use Rattle.omci_types.specs.declared.Priority.TheVariants.{Low, High}
 use Rattle.tci_spec.specs.Tci.{packet_tci}
 use Rattle.link_spec.specs.declared.Direction.TheVariants.{Up}
 use Rattle.link_spec.specs.Link.{Sent, Link, way_in, with_way, passed, delivered_on}
-use Rattle.lane_spec.specs.Lane.{Lane, Waiting, ended}
+use Rattle.lane_spec.specs.Command.{is_probe}
+use Rattle.lane_spec.specs.Lane.{Lane, Waiting, end_command}
 use Rattle.manager_spec.specs.Manager.{Manager, lane_in, with_lane}
 use Rattle.unit_spec.specs.Onu.{Onu}
 use Rattle.history_spec.specs.History.{TookReply}
@@ -129,11 +130,6 @@ written_like High id bytes link lives unit manager t v p h = record {
   manager_is = h.manager_is;
 }
 
--- the manager's lane was ended so
-ended_is : (w : Waiting) (x : Lane) (probe : Bool) → w.command.probe ≡ probe → ended w x
-    ≡ record x { proved = probe || x.proved; outstanding = None }
-ended_is w x probe e = ap (λ b. record x { proved = b || x.proved; outstanding = None }) e
-
 take_goes : (l : Priority) (tr : Transaction) (i : ℕ) (bytes : List ℕ) (p : Channel)
     (o : Outstanding) (probe : Bool) → slice_get p.shared.packets i ≡ Some (ReplyTo l tr bytes)
     → may_go_up i (lane_view l p) ≡ true → (lane_view l p).lane.outstanding ≡ Some o
@@ -148,7 +144,7 @@ take_goes l tr i bytes p o probe at may w same b =
     ∙ ap (λ z. with_lane_view l (take_if_same bytes (with_floor_up i (lane_view l p)) o z) p) test
     ∙ ap (λ z. with_lane_view l (take_reply bytes (with_floor_up i (lane_view l p)) o z) p) b
 
--- what the history makes of the report
+-- what the history makes of it
 abbrev pub told_taken : Bool → Priority → Told → Told
 told_taken true l t = t
 told_taken false l t = record t { history = TookReply (drawn_in l t) t.packet ∷ t.history }
@@ -156,13 +152,17 @@ told_taken false l t = record t { history = TookReply (drawn_in l t) t.packet �
 pub taken_up : (l : Priority) (tr : Transaction) (i : ℕ) (s : Sent) (w : Waiting) (probe : Bool)
     (link : Link) (lives : ℕ) (unit : Option Onu) (m : Manager) (t : Told) (p : Channel)
     → Returns l tr i s p → Like link lives unit (Some m) t p → (lane_in l m).outstanding ≡ Some w
-    → packet_tci s.bytes ≡ w.tci → w.command.probe ≡ probe
-    → Follows (delivered_on i s link) lives unit (Some (with_lane l (ended w (lane_in l m)) m))
+    → packet_tci s.bytes ≡ w.tci → is_probe w.command.purpose ≡ probe
+    → Follows (delivered_on i s link) lives unit
+    (Some (with_lane l (end_command w (lane_in l m)) m))
     (told_taken probe l (came_told i s t)) p
 taken_up l tr i s w probe link lives unit m t p a h waiting same b = go probe b
   where
     x : Lane
     x = lane_in l m
+
+    after : Lane
+    after = end_command w x
 
     c : Told
     c = came_told i s t
@@ -187,14 +187,14 @@ taken_up l tr i s w probe link lives unit m t p a h waiting same b = go probe b
     came = came_up l tr.place i s link lives unit (Some m) t p a.way a.tci h
 
     lane_ends : (proved : Bool) → (proved ≡ (lane_view l p).lane.proved) ⊎ (proved ≡ true)
-        → (w.command.probe || x.proved ≡ proved)
-        → Like (delivered_on i s link) lives unit (Some (with_lane l (ended w x) m)) c
+        → (is_probe w.command.purpose || x.proved ≡ proved)
+        → Like (delivered_on i s link) lives unit (Some (with_lane l after m)) c
         (with_lane_view l (with_end proved v) p)
     lane_ends proved _ f =
-        subst (λ z. Like (delivered_on i s link) lives unit (Some (with_lane l (ended w x) m)) c z)
+        subst (λ z. Like (delivered_on i s link) lives unit (Some (with_lane l after m)) c z)
         (ap (λ y. with_lane_view l (with_end proved y) q) (view_put l v p)
         ∙ put_put l (with_end proved v) v p)
-        (ended_like l proved w (ended w x) (delivered_on i s link) lives unit m c q came waiting
+        (ended_like l proved w after (delivered_on i s link) lives unit m c q came waiting
         (ap (λ y. record x { proved = y; outstanding = None }) f))
 
     own : drawn_in l c ≡ o.transaction.id
@@ -204,20 +204,21 @@ taken_up l tr i s w probe link lives unit m t p a h waiting same b = go probe b
         drawn_same Low = refl
         drawn_same High = refl
 
-    go : (probe : Bool) → w.command.probe ≡ probe → Follows (delivered_on i s link) lives unit
-        (Some (with_lane l (ended w x) m)) (told_taken probe l c) p
+    go : (probe : Bool) → is_probe w.command.purpose ≡ probe
+        → Follows (delivered_on i s link) lives unit (Some (with_lane l after m))
+        (told_taken probe l c) p
     go true e = (
       ReplyComes i true ∷ [],
-      subst (λ z. Like (delivered_on i s link) lives unit (Some (with_lane l (ended w x) m)) c z)
+      subst (λ z. Like (delivered_on i s link) lives unit (Some (with_lane l after m)) c z)
           (sym (take_goes l tr i s.bytes p o true a.at a.may k.is number (sym k.awaits.probe ∙ e)))
           (lane_ends true (inr refl) (ap (λ y. y || x.proved) e)),
     )
     go false e = (
       ReplyComes i true ∷ [],
-      subst (λ z. Like (delivered_on i s link) lives unit (Some (with_lane l (ended w x) m))
+      subst (λ z. Like (delivered_on i s link) lives unit (Some (with_lane l after m))
           (told_taken false l c) z)
           (sym (take_goes l tr i s.bytes p o false a.at a.may k.is number (sym k.awaits.probe ∙ e)))
-          (subst (λ n. Like (delivered_on i s link) lives unit (Some (with_lane l (ended w x) m))
+          (subst (λ n. Like (delivered_on i s link) lives unit (Some (with_lane l after m))
           (record c { history = TookReply n s.bytes ∷ c.history })
           (with_lane_view l (take_reply s.bytes v o false) p)) (sym own)
           (written_like l o.transaction.id s.bytes (delivered_on i s link) lives unit _ c

@@ -1,22 +1,27 @@
 -- A second passes in the manager's lanes.
-use Rattle.std.proofs.Common.{◌≡◌, ℕ, ◌+◌, ◌≤◌, Bool, true, false, List, [], ◌∷◌, ◌++◌, length, Option, Some, None, refl, sym, ap, subst, ◌∙◌, arith, nat_le, nat_lt}
+use Rattle.std.proofs.Common.{◌≡◌, ℕ, ◌+◌, ◌≤◌, Bool, true, false, List, [], ◌∷◌, length, Option, Some, None, refl, sym, ap, subst, ◌∙◌, arith, nat_le, nat_lt}
 use Rattle.std.proofs.lemmas.Bool.Decides.{nat_tests}
+use Rattle.std.proofs.lemmas.List.{append-nil}
 use Rattle.std.specs.Prelude.{map}
-use Rattle.std.specs.List.{flat_map}
 use Rattle.omci_types.specs.declared.Priority.{Priority}
 use Rattle.omci_types.specs.declared.Priority.TheVariants.{Low, High}
 use Rattle.link_spec.specs.Link.{Link}
 use Rattle.lane_spec.specs.declared.TheConstants.{MOST_REPEATS}
+use Rattle.lane_spec.specs.declared.LaneTick.TheVariants.{GaveUp}
 use Rattle.lane_spec.specs.Command.{command_packets}
-use Rattle.lane_spec.specs.Lane.{Lane, Waiting, tick_by, tick_waiting, lane_tick}
-use Rattle.manager_spec.specs.Manager.{Manager, Outcome, lane_in, with_lane, lane_ticked, tick_lane}
+use Rattle.lane_spec.specs.Lane.{Lane, Waiting, is_changed_by, tick_by, tick_waiting, lane_tick}
+use Rattle.manager_spec.specs.Manager.{Manager, lane_in, with_lane}
+use Rattle.manager_spec.specs.Resync.{waits_for}
+use Rattle.manager_spec.specs.Steps.{lane_ticked, tick_lane}
 use Rattle.unit_spec.specs.Onu.{Onu}
 use Rattle.moves_spec.specs.Channel.{Outstanding, Channel, View, lane_view, with_lane_view}
-use Rattle.moves_spec.specs.Moves.{Send, GiveUp, send_if, with_end, end_if, give_up_if, after_move}
+use Rattle.moves_spec.specs.Moves.{Send, GiveUp, send_if, with_end, end_if, give_up_if, after_move, after_moves}
 use Rattle.world_spec.specs.Happenings.{Happening, link_read}
-use Rattle.world_spec.specs.Ends.{goes_down, sends}
+use Rattle.world_spec.specs.Ends.{goes_down}
 use Rattle.world_spec.specs.History.{Told, drawn_in, tell_all}
-use Rattle.world_laws.proofs.Likeness.{tci_at, Awaits, IsOut, IsLaneOf, IsManager, Like, lane_like, Waits, busy, Follows, same_view, same_manager, like_unmanaged, like_managed, like_one_lane, one_lane, like_reports}
+use Rattle.world_laws.proofs.Likeness.{tci_at, Awaits, IsOut, IsLaneOf, IsManager, Like, lane_like, Waits, busy, Follows, same_view, same_manager, like_unmanaged, like_managed, like_one_lane, one_lane, like_same_lanes}
+use Rattle.world_laws.proofs.Keeping.{give_up_keeps}
+use Rattle.world_laws.proofs.Following.{OutcomeFollows}
 use Rattle.world_laws.proofs.Sending.{HaveTci, packets_tci, lasts_stay, sent_view, sent_like, sent_lane}
 
 -- ---- the outstanding command is sent again
@@ -25,10 +30,6 @@ send_goes : (l : Priority) (p : Channel) (o : Outstanding) → (lane_view l p).l
     ≡ Some o
     → after_move (Send l) p ≡ with_lane_view l (sent_view l o (lane_view l p)) p
 send_goes l p o w = ap (λ z. with_lane_view l (send_if l (lane_view l p) z) p) w
-
-pub append_nothing : {A : Type 0} (xs : List A) → xs ++ [] ≡ xs
-append_nothing [] = refl
-append_nothing (x ∷ xs) = ap (λ ys. x ∷ ys) (append_nothing xs)
 
 repeat_follows : (l : Priority) (w : Waiting) (link : Link) (lives : ℕ) (unit : Option Onu)
     (m : Manager) (t : Told) (p : Channel)
@@ -191,19 +192,30 @@ give_up_follows l w link lives unit m t p h e many =
 
 -- ---- a second of a lane
 
-abbrev pub OutcomeFollows : Outcome → Link → ℕ → Option Onu → Told → Channel → Type 0
-OutcomeFollows o link lives unit t p =
-    Follows (link_read (flat_map sends o.sendings) link) lives unit (Some o.manager)
-    (tell_all (flat_map sends o.sendings) t) p
+-- what is seen of the loss leaves the lanes alone
+lost_follows : (l : Priority) (w : Waiting) (link : Link) (lives : ℕ) (unit : Option Onu)
+    (m : Manager) (t : Told) (p : Channel)
+    → Follows link lives unit
+    (Some (with_lane l (record (lane_in l m) { proved = false; outstanding = None }) m)) t p
+    → Follows link lives unit
+    (Some (lane_ticked (GaveUp w.tci) l (lane_in l m).outstanding
+    (record (lane_in l m) { proved = false; outstanding = None }) m).manager) t p
+lost_follows l w link lives unit m t p f = (
+  f.0,
+  like_same_lanes link lives unit n _ t (after_moves f.0 p)
+      (give_up_keeps (waits_for l m.job) (is_changed_by (lane_in l m).outstanding) w.tci n).same
+      f.1,
+)
+  where
+    n : Manager
+    n = with_lane l (record (lane_in l m) { proved = false; outstanding = None }) m
 
-tick_by_follows : (l : Priority) (over may : Bool) (w : Waiting) (link : Link) (lives : ℕ)
-    (unit : Option Onu) (m : Manager) (t : Told) (p : Channel)
-    → Like link lives unit (Some m) t p → (lane_in l m).outstanding ≡ Some w
-    → nat_lt w.repeats MOST_REPEATS ≡ may
-    → OutcomeFollows
-    (lane_ticked (tick_by over may w (lane_in l m)).tick l (tick_by over may w (lane_in l m)).lane
-    m) link lives unit t p
-tick_by_follows l false may w link lives unit m t p h e c =
+tick_by_follows : (l : Priority) (over may : Bool) (w : Waiting) (m : Manager)
+    → (lane_in l m).outstanding ≡ Some w → nat_lt w.repeats MOST_REPEATS ≡ may
+    → OutcomeFollows m
+    (lane_ticked (tick_by over may w (lane_in l m)).tick l (lane_in l m).outstanding
+    (tick_by over may w (lane_in l m)).lane m)
+tick_by_follows l false may w m e c = λ link lives unit t p h.
     let lane = lane_like l t m p (h.manager_is m refl) in
     let waits = busy l (drawn_in l t) (lane_in l m) (lane_view l p).lane w lane e in
     let a = waits.awaits in (
@@ -227,25 +239,21 @@ tick_by_follows l false may w link lives unit m t p h e c =
             });
       }),
     )
-tick_by_follows l true true w link lives unit m t p h e c = repeat_follows l w link lives unit m t p
-    h e _ (append_nothing _)
-tick_by_follows l true false w link lives unit m t p h e c =
-    let f = give_up_follows l w link lives unit m t p h e (grind (arith, nat_tests)) in
-    (f.0, like_reports _ link lives unit _ t _ f.1)
+tick_by_follows l true true w m e c = λ link lives unit t p h.
+    repeat_follows l w link lives unit m t p h e _ (append-nil _)
+tick_by_follows l true false w m e c = λ link lives unit t p h.
+    lost_follows l w link lives unit m t p
+    (give_up_follows l w link lives unit m t p h e (grind (arith, nat_tests)))
 
-tick_waiting_follows : (l : Priority) (o : Option Waiting) (link : Link) (lives : ℕ)
-    (unit : Option Onu) (m : Manager) (t : Told) (p : Channel)
-    → Like link lives unit (Some m) t p → (lane_in l m).outstanding ≡ o
-    → OutcomeFollows
-    (lane_ticked (tick_waiting o (lane_in l m)).tick l (tick_waiting o (lane_in l m)).lane m) link
-    lives unit t p
-tick_waiting_follows l None link lives unit m t p h e =
+tick_waiting_follows : (l : Priority) (o : Option Waiting) (m : Manager)
+    → (lane_in l m).outstanding ≡ o
+    → OutcomeFollows m
+    (lane_ticked (tick_waiting o (lane_in l m)).tick l (lane_in l m).outstanding
+    (tick_waiting o (lane_in l m)).lane m)
+tick_waiting_follows l None m e = λ link lives unit t p h.
     ([], subst (λ x. Like link lives unit (Some x) t p) (sym (same_manager l m)) h)
-tick_waiting_follows l (Some w) link lives unit m t p h e = tick_by_follows l _ _ w link lives unit
-    m t p h e refl
+tick_waiting_follows l (Some w) m e = tick_by_follows l _ _ w m e refl
 
-pub tick_lane_follows : (l : Priority) (link : Link) (lives : ℕ) (unit : Option Onu) (m : Manager)
-    (t : Told) (p : Channel)
-    → Like link lives unit (Some m) t p → OutcomeFollows (tick_lane l m) link lives unit t p
+pub tick_lane_follows : (l : Priority) (m : Manager) → OutcomeFollows m (tick_lane l m)
 unfolding lane_tick
-tick_lane_follows l link lives unit m t p h = tick_waiting_follows l _ link lives unit m t p h refl
+tick_lane_follows l m = tick_waiting_follows l _ m refl

@@ -1,174 +1,97 @@
 -- Steps of the two ends between their rests: submissions and seconds.
-use Rattle.std.proofs.Common.{◌≡◌, ℕ, Bool, true, false, cond, List, [], ◌∷◌, ◌++◌, Option, Some, None, refl, sym, ap, subst, ◌∙◌, append_assoc}
-use Rattle.std.proofs.lemmas.Option.{same_Some}
+use Rattle.std.proofs.Common.{◌≡◌, ◌++◌, Bool, true, false, cond, List, [], ◌∷◌, Option, Some, None, is_none, refl, sym, ap, subst, ◌∙◌}
+use Rattle.std.proofs.lemmas.Bool.{and_parts}
 use Rattle.std.specs.Prelude.{map}
-use Rattle.std.specs.List.{flat_map}
 use Rattle.omci_types.specs.declared.EntityId.{EntityId}
 use Rattle.omci_types.specs.declared.Priority.{Priority}
 use Rattle.omci_types.specs.declared.Priority.TheVariants.{Low, High}
 use Rattle.message_spec.specs.declared.Request.{Request}
-use Rattle.link_spec.specs.Link.{Link}
-use Rattle.lane_spec.specs.Command.{Command, probe_command, ask}
+use Rattle.lane_spec.specs.Command.{probe_command, check_command, ask, job_command, sync_entity}
 use Rattle.lane_spec.specs.Lane.{Lane, Waiting, lane_tick}
 use Rattle.lane_spec.specs.declared.LaneTick.{LaneTick}
 use Rattle.lane_spec.specs.declared.LaneTick.TheVariants.{Quiet, Repeat, GaveUp}
 use Rattle.manager_spec.specs.declared.Refusal.{Refusal}
-use Rattle.manager_spec.specs.declared.Refusal.TheVariants.{Unproven, Occupied}
-use Rattle.manager_spec.specs.declared.Report.{Report}
-use Rattle.manager_spec.specs.declared.Report.TheVariants as report
-use Rattle.manager_spec.specs.Manager.{Manager, Sending, Outcome, and_then, lane_in, with_lane, occupied_by, second_change, first_refusal, unless_refused, command_sent, after_probe, after_submit, lane_ticked, tick_lane, after_tick}
-use Rattle.unit_spec.specs.Onu.{Onu}
+use Rattle.manager_spec.specs.declared.Refusal.TheVariants.{Unproven}
+use Rattle.manager_spec.specs.Manager.{Probing, Manager, Outcome, and_then, lane_in, command_sent}
+use Rattle.manager_spec.specs.Resync.{Wish, with_job, is_free, send_wish, wish_in, job_goes_on}
+use Rattle.manager_spec.specs.Submitting.{occupied, occupied_by, unproven, out_of_step, needs_copy, job_running, job_in_the_way, other_change, second_change, first_refusal, unless_refused, probe_refusal, after_probe, submit_refusal, leaves_copy, leave_if, after_submit, check_refusal, after_check, resync_refusal, after_resync}
+use Rattle.manager_spec.specs.Steps.{lane_ticked, tick_lane, after_tick}
+use Rattle.unit_spec.specs.Onu.{Onu, onu_ticked}
+use Rattle.link_spec.specs.Link.{Link}
 use Rattle.moves_spec.specs.Channel.{Channel}
-use Rattle.moves_spec.specs.Moves.{Move, after_moves}
-use Rattle.world_spec.specs.Happenings.{Happening, Reported, Refused, CommandDrawn, link_read, on_link}
-use Rattle.world_spec.specs.Ends.{Step, still, not_enabled, sends, manager_did, submitted, submission, manager_ticks, second}
-use Rattle.world_spec.specs.Nodes.{Nodes, nodes_after_step}
-use Rattle.world_spec.specs.History.{Told, tell, tell_all}
-use Rattle.world_laws.proofs.Likeness.{Like, like_reports, after_both}
-use Rattle.world_laws.proofs.Sending.{draw_follows}
-use Rattle.world_laws.proofs.Ticks.{append_nothing, OutcomeFollows, tick_lane_follows}
+use Rattle.world_spec.specs.Happenings.{ReplyTaken}
+use Rattle.world_spec.specs.Ends.{Ends, Step, still, not_enabled, then_step, manager_did, submission_step, submission, manager_ticks, unit_ticks, second}
+use Rattle.world_spec.specs.Nodes.{Nodes}
+use Rattle.world_spec.specs.History.{Told}
+use Rattle.world_laws.proofs.Likeness.{Like, SameLanes, like_same_kept}
+use Rattle.world_laws.proofs.Keeping.{leave_if_keeps}
+use Rattle.world_laws.proofs.Following.{Happens, then_happens, OutcomeFollows, sends_none, from_same, both_follow, outcome_happens}
+use Rattle.world_laws.proofs.Sending.{command_follows}
+use Rattle.world_laws.proofs.Ticks.{tick_lane_follows}
 
 -- the nodes between two lines of a script
-pub record Rests (n : Nodes) (t : Told) (p : Channel) : Type 0 where
-  pub like : Like n.link n.ends.lives n.ends.unit n.ends.manager t p
-  pub reports : (m : Manager) → n.ends.manager ≡ Some m → m.reports ≡ []
+abbrev pub Rests : Nodes → Told → Channel → Type 0
+Rests n t p = Like n.link n.ends.lives n.ends.unit n.ends.manager t p
 
 -- some moves make up for a step
 abbrev pub StepFollows : Step → Nodes → Told → Channel → Type 0
-StepFollows s n t p = (ms : List Move) × Rests (nodes_after_step s n) (tell_all s.happenings t)
-    (after_moves ms p)
+StepFollows s n t p = Happens s.happenings n.link s.ends.lives s.ends.unit s.ends.manager t p
 
 pub no_step : (n : Nodes) (t : Told) (p : Channel) → Rests n t p → StepFollows (still n.ends) n t p
 no_step n t p h = ([], h)
 
 pub not_enabled_step : (n : Nodes) (t : Told) (p : Channel) → Rests n t p
     → StepFollows (not_enabled n.ends) n t p
-not_enabled_step n t p h = ([], record { like = h.like; reports = h.reports })
-
--- ---- lists of happenings
-
-pub link_append : (hs gs : List Happening) (l : Link) → link_read (hs ++ gs) l
-    ≡ link_read gs (link_read hs l)
-link_append [] gs l = refl
-link_append (h ∷ hs) gs l = link_append hs gs (on_link h l)
-
-pub tell_append : (hs gs : List Happening) (t : Told) → tell_all (hs ++ gs) t
-    ≡ tell_all gs (tell_all hs t)
-tell_append [] gs t = refl
-tell_append (h ∷ hs) gs t = tell_append hs gs (tell h t)
-
-sends_append : (xs ys : List Sending) → flat_map sends (xs ++ ys)
-    ≡ flat_map sends xs ++ flat_map sends ys
-sends_append [] ys = refl
-sends_append (x ∷ xs) ys = ap (λ l. sends x ++ l) (sends_append xs ys)
-    ∙ sym (append_assoc (sends x) (flat_map sends xs) (flat_map sends ys))
-
--- reports of nothing but commands that were given up
-abbrev pub GiveUps : List Report → Type 0
-GiveUps [] = Unit {0}
-GiveUps (report.GaveUp tci ∷ rest) = GiveUps rest
-GiveUps (report.Took reply ∷ rest) = ⊥
-GiveUps (report.Proved lane ∷ rest) = ⊥
-GiveUps (report.Dropped ∷ rest) = ⊥
-
-one_give_up : (rs : List Report) (tci : ℕ) → GiveUps rs → GiveUps (rs ++ report.GaveUp tci ∷ [])
-one_give_up [] tci h = tt
-one_give_up (report.GaveUp x ∷ rs) tci h = one_give_up rs tci h
-one_give_up (report.Took x ∷ rs) tci h = absurd h
-one_give_up (report.Proved x ∷ rs) tci h = absurd h
-one_give_up (report.Dropped ∷ rs) tci h = absurd h
-
-pub reported_link : (rs : List Report) (hs : List Happening) (l : Link)
-    → link_read (map Reported rs ++ hs) l ≡ link_read hs l
-reported_link [] hs l = refl
-reported_link (r ∷ rs) hs l = reported_link rs hs l
-
-pub reported_told : (rs : List Report) (hs : List Happening) (t : Told) → GiveUps rs
-    → tell_all (map Reported rs ++ hs) t ≡ tell_all hs t
-reported_told [] hs t h = refl
-reported_told (report.GaveUp x ∷ rs) hs t h = reported_told rs hs t h
-reported_told (report.Took x ∷ rs) hs t h = absurd h
-reported_told (report.Proved x ∷ rs) hs t h = absurd h
-reported_told (report.Dropped ∷ rs) hs t h = absurd h
+not_enabled_step n t p h = ([], h)
 
 -- ---- what the manager did of its own
 
-cleared : (o : Manager) (m : Manager) → Some (record o { reports = [] }) ≡ Some m → m.reports ≡ []
-cleared o m e = ap (λ x. x.reports) (sym (same_Some (record o { reports = [] }) m e))
-
-pub did_follows : (o : Outcome) (n : Nodes) (t : Told) (p : Channel) → GiveUps o.manager.reports
-    → OutcomeFollows o n.link n.ends.lives n.ends.unit t p → StepFollows (manager_did o n.ends) n t
-    p
-did_follows o n t p g f =
-    let hs = flat_map sends o.sendings in (
-      f.0,
-      record {
-        like = subst
-            (λ l. Like l n.ends.lives n.ends.unit (Some (record o.manager { reports = [] }))
-            (tell_all (map Reported o.manager.reports ++ hs) t) (after_moves f.0 p))
-            (sym (reported_link o.manager.reports hs n.link))
-            (subst (λ u. Like (link_read hs n.link) n.ends.lives n.ends.unit
-            (Some (record o.manager { reports = [] })) u (after_moves f.0 p))
-            (sym (reported_told o.manager.reports hs t g))
-            (like_reports [] _ _ _ o.manager _ _ f.1));
-        reports = λ m e. cleared o.manager m e;
-      },
-    )
+-- it took no reply
+pub own_follows : (o : Outcome) (m : Manager) (n : Nodes) (t : Told) (p : Channel) → Rests n t p
+    → n.ends.manager ≡ Some m → o.taken ≡ [] → OutcomeFollows m o
+    → StepFollows (manager_did o n.ends) n t p
+own_follows o m n t p h e none f =
+    outcome_happens [] m o n.link n.ends.lives n.ends.unit t p
+    (subst
+    (λ ls. Happens (map ReplyTaken ls) n.link n.ends.lives n.ends.unit (Some m) t p) (sym none)
+    ([], subst (λ x. Like n.link n.ends.lives n.ends.unit x t p) e h)) f
 
 -- ---- submissions
 
-reports_stay : (l : Priority) (x : Lane) (m : Manager) → (with_lane l x m).reports ≡ m.reports
-reports_stay Low x m = refl
-reports_stay High x m = refl
+first_none : (o : Option Refusal) (rest : List (Option Refusal))
+    → first_refusal (o ∷ rest) ≡ None → (o ≡ None) × (first_refusal rest ≡ None)
+first_none None rest e = (refl, e)
+first_none (Some r) rest e = absurd (cc)
 
-command_follows : (l : Priority) (c : Command) (m : Manager) (n : Nodes) (t : Told) (p : Channel)
-    → Rests n t p → n.ends.manager ≡ Some m
-    → (lane_in l m).outstanding ≡ None → ((lane_in l m).proved ≡ false → c.probe ≡ true)
-    → StepFollows (manager_did (command_sent l c m) n.ends) n t p
-command_follows l c m n t p h e none allowed =
-    did_follows (command_sent l c m) n t p
-    (subst GiveUps (sym (reports_stay l _ m ∙ h.reports m e)) tt)
-    (draw_follows l c n.link n.ends.lives n.ends.unit m t p
-    (subst (λ x. Like n.link n.ends.lives n.ends.unit x t p) e h.like) none allowed _
-    (ap (λ hs. CommandDrawn l ∷ hs) (append_nothing _)))
+unoccupied : (o : Option Waiting) → occupied_by o ≡ None → o ≡ None
+unoccupied None e = refl
+unoccupied (Some w) e = absurd (cc)
 
-refused_follows : (r : Refusal) (n : Nodes) (t : Told) (p : Channel) → Rests n t p
-    → StepFollows (record { ends = n.ends; happenings = Refused r ∷ [] }) n t p
-refused_follows r n t p h = ([], record { like = h.like; reports = h.reports })
+is_proved : (proved : Bool) (l : Priority) → cond proved None (Some (Unproven l)) ≡ None
+    → proved ≡ true
+is_proved true l e = refl
+is_proved false l e = absurd (cc)
 
-probe_by : (o : Option Waiting) (l : Priority) (m : Manager) (n : Nodes) (t : Told) (p : Channel)
-    → Rests n t p → n.ends.manager ≡ Some m
-    → (lane_in l m).outstanding ≡ o
-    → StepFollows (submitted (unless_refused (occupied_by o) (command_sent l probe_command m) m)
-    n.ends) n t p
-probe_by None l m n t p h e f = command_follows l probe_command m n t p h e f (λ q. refl)
-probe_by (Some w) l m n t p h e f = refused_follows (Occupied w.tci) n t p h
+proved_any : (proved probe : Bool) → proved ≡ true → proved ≡ false → probe ≡ true
+proved_any proved probe e f = absurd (cc)
+
+-- it is refused, or does what it asks for
+submission_by : (r : Option Refusal) (o : Outcome) (m : Manager) (n : Nodes) (t : Told)
+    (p : Channel) → Rests n t p → (r ≡ None → StepFollows (manager_did o n.ends) n t p)
+    → StepFollows (submission_step (unless_refused r o m) n.ends) n t p
+submission_by None o m n t p h f = f refl
+submission_by (Some r) o m n t p h f = ([], h)
 
 probe_goes : (l : Priority) (m : Manager) (n : Nodes) (t : Told) (p : Channel) → Rests n t p
     → n.ends.manager ≡ Some m
-    → StepFollows (submitted (after_probe l m) n.ends) n t p
+    → StepFollows (submission_step (after_probe l m) n.ends) n t p
 unfolding after_probe
-probe_goes l m n t p h e = probe_by _ l m n t p h e refl
-
-submit_by : (proved : Bool) (o : Option Waiting) (change : Option Refusal) (l : Priority)
-    (c : Command) (m : Manager) (n : Nodes) (t : Told) (p : Channel) → Rests n t p
-    → n.ends.manager ≡ Some m → (lane_in l m).proved ≡ proved → (lane_in l m).outstanding ≡ o
-    → StepFollows
-    (submitted
-    (unless_refused
-    (first_refusal (cond proved None (Some (Unproven l)) ∷ occupied_by o ∷ change ∷ []))
-    (command_sent l c m) m) n.ends) n t p
-submit_by false o change l c m n t p h e q f = refused_follows (Unproven l) n t p h
-submit_by true (Some w) change l c m n t p h e q f = refused_follows (Occupied w.tci) n t p h
-submit_by true None (Some r) l c m n t p h e q f = refused_follows r n t p h
-submit_by true None None l c m n t p h e q f = command_follows l c m n t p h e f (λ g. absurd (cc))
-
-submits : (l : Priority) (entity : EntityId) (r : Request) (m : Manager) (n : Nodes) (t : Told)
-    (p : Channel) → Rests n t p → n.ends.manager ≡ Some m
-    → StepFollows (submitted (after_submit l entity r m) n.ends) n t p
-unfolding after_submit
-submits l entity r m n t p h e = submit_by _ _ (second_change r l m) l (ask entity r) m n t p h e
-    refl refl
+probe_goes l m n t p h e =
+    submission_by (probe_refusal l m) (command_sent false l probe_command m) m n t p h
+    (λ none. own_follows (command_sent false l probe_command m) m n t p h e refl
+    (command_follows false l probe_command m
+    (unoccupied (lane_in l m).outstanding
+    (first_none (occupied l m) (job_running m ∷ []) none).0) (λ q. refl)))
 
 pub probe_follows : (l : Priority) (o : Option Manager) (n : Nodes) (t : Told) (p : Channel)
     → Rests n t p → n.ends.manager ≡ o
@@ -176,73 +99,214 @@ pub probe_follows : (l : Priority) (o : Option Manager) (n : Nodes) (t : Told) (
 probe_follows l None n t p h e = not_enabled_step n t p h
 probe_follows l (Some m) n t p h e = probe_goes l m n t p h e
 
+lane_same : (l : Priority) (m n : Manager) → SameLanes m n → lane_in l n ≡ lane_in l m
+lane_same Low m n s = s.low
+lane_same High m n s = s.high
+
+-- a request may leave the copy before it goes out
+ask_follows : (b : Bool) (l : Priority) (entity : EntityId) (r : Request) (m : Manager)
+    → (lane_in l m).proved ≡ true → (lane_in l m).outstanding ≡ None
+    → OutcomeFollows m (command_sent false l (ask entity r) (leave_if b m))
+ask_follows b l entity r m proved none =
+    from_same m (leave_if b m) (command_sent false l (ask entity r) (leave_if b m)) same
+    (command_follows false l (ask entity r) (leave_if b m)
+    (ap (λ x. x.outstanding) lane ∙ none)
+    (proved_any (lane_in l (leave_if b m)).proved false (ap (λ x. x.proved) lane ∙ proved)))
+  where
+    same : SameLanes m (leave_if b m)
+    same = (leave_if_keeps b m).same
+
+    lane : lane_in l (leave_if b m) ≡ lane_in l m
+    lane = lane_same l m (leave_if b m) same
+
+submit_goes : (l : Priority) (entity : EntityId) (r : Request) (m : Manager) (n : Nodes) (t : Told)
+    (p : Channel) → Rests n t p → n.ends.manager ≡ Some m
+    → StepFollows (submission_step (after_submit l entity r m) n.ends) n t p
+unfolding after_submit
+submit_goes l entity r m n t p h e =
+    submission_by (submit_refusal l r m) o m n t p h
+    (λ none. own_follows o m n t p h e refl (goes (first_none (unproven l m) rest none)))
+  where
+    o : Outcome
+    o = command_sent false l (ask entity r) (leave_if (leaves_copy r) m)
+
+    more : List (Option Refusal)
+    more = out_of_step (needs_copy r) m ∷ job_in_the_way l r m ∷ second_change r l m ∷ []
+
+    rest : List (Option Refusal)
+    rest = occupied l m ∷ more
+
+    goes : (unproven l m ≡ None) × (first_refusal rest ≡ None) → OutcomeFollows m o
+    goes k = ask_follows (leaves_copy r) l entity r m (is_proved (lane_in l m).proved l k.0)
+        (unoccupied (lane_in l m).outstanding (first_none (occupied l m) more k.1).0)
+
 pub submit_follows : (l : Priority) (entity : EntityId) (r : Request) (o : Option Manager)
     (n : Nodes) (t : Told) (p : Channel) → Rests n t p → n.ends.manager ≡ o
     → StepFollows (submission (after_submit l entity r) o n.ends) n t p
 submit_follows l entity r None n t p h e = not_enabled_step n t p h
-submit_follows l entity r (Some m) n t p h e = submits l entity r m n t p h e
+submit_follows l entity r (Some m) n t p h e = submit_goes l entity r m n t p h e
+
+check_goes : (m : Manager) (n : Nodes) (t : Told) (p : Channel) → Rests n t p
+    → n.ends.manager ≡ Some m → StepFollows (submission_step (after_check m) n.ends) n t p
+unfolding after_check
+check_goes m n t p h e =
+    submission_by (check_refusal m) o m n t p h
+    (λ none. own_follows o m n t p h e refl (goes (first_none (unproven Low m) rest none)))
+  where
+    o : Outcome
+    o = command_sent false Low check_command m
+
+    more : List (Option Refusal)
+    more = out_of_step true m ∷ job_running m ∷ other_change Low m ∷ []
+
+    rest : List (Option Refusal)
+    rest = occupied Low m ∷ more
+
+    goes : (unproven Low m ≡ None) × (first_refusal rest ≡ None) → OutcomeFollows m o
+    goes k = command_follows false Low check_command m
+        (unoccupied m.low.outstanding (first_none (occupied Low m) more k.1).0)
+        (proved_any m.low.proved false (is_proved m.low.proved Low k.0))
+
+pub check_follows : (o : Option Manager) (n : Nodes) (t : Told) (p : Channel) → Rests n t p
+    → n.ends.manager ≡ o → StepFollows (submission after_check o n.ends) n t p
+check_follows None n t p h e = not_enabled_step n t p h
+check_follows (Some m) n t p h e = check_goes m n t p h e
+
+-- both lanes are probed
+resync_sends : (m : Manager) → m.high.outstanding ≡ None → m.low.outstanding ≡ None
+    → OutcomeFollows m
+    (and_then (command_sent false High probe_command (with_job (Some (Probing true true)) m))
+    (command_sent false Low probe_command))
+resync_sends m high low =
+    both_follow m a (command_sent false Low probe_command)
+    (from_same m b a (record { low = refl; high = refl })
+    (command_follows false High probe_command b high (λ q. refl)))
+    (command_follows false Low probe_command a.manager low (λ q. refl))
+  where
+    b : Manager
+    b = with_job (Some (Probing true true)) m
+
+    a : Outcome
+    a = command_sent false High probe_command b
+
+resync_goes : (m : Manager) (n : Nodes) (t : Told) (p : Channel) → Rests n t p
+    → n.ends.manager ≡ Some m → StepFollows (submission_step (after_resync m) n.ends) n t p
+unfolding after_resync
+resync_goes m n t p h e =
+    submission_by (resync_refusal m) o m n t p h
+    (λ none. own_follows o m n t p h e refl (goes (first_none (occupied High m) rest none)))
+  where
+    o : Outcome
+    o = and_then (command_sent false High probe_command (with_job (Some (Probing true true)) m))
+        (command_sent false Low probe_command)
+
+    more : List (Option Refusal)
+    more = job_running m ∷ []
+
+    rest : List (Option Refusal)
+    rest = occupied Low m ∷ more
+
+    goes : (occupied High m ≡ None) × (first_refusal rest ≡ None) → OutcomeFollows m o
+    goes k = resync_sends m (unoccupied m.high.outstanding k.0)
+        (unoccupied m.low.outstanding (first_none (occupied Low m) more k.1).0)
+
+pub resync_follows : (o : Option Manager) (n : Nodes) (t : Told) (p : Channel) → Rests n t p
+    → n.ends.manager ≡ o → StepFollows (submission after_resync o n.ends) n t p
+resync_follows None n t p h e = not_enabled_step n t p h
+resync_follows (Some m) n t p h e = resync_goes m n t p h e
+
+-- ---- the job goes on
+
+none_is : (o : Option Waiting) → is_none o ≡ true → o ≡ None
+none_is None e = refl
+none_is (Some w) e = absurd (cc)
+
+-- a lane that is free waits for nothing, and is proved
+free_is : (x : Lane) → is_free x ≡ true → (x.outstanding ≡ None) × (x.proved ≡ true)
+free_is x e =
+    let both = and_parts x.proved (is_none x.outstanding) e in
+    (none_is x.outstanding both.1, both.0)
+
+wish_follows : (free : Bool) (w : Option Wish) (m : Manager) → is_free m.low ≡ free
+    → OutcomeFollows m (send_wish free w m)
+wish_follows free None m e =
+    sends_none m (send_wish free None m) (record { low = refl; high = refl }) refl
+wish_follows false (Some w) m e =
+    sends_none m (send_wish false (Some w) m) (record { low = refl; high = refl }) refl
+wish_follows true (Some w) m e =
+    from_same m (with_job (Some w.stage) m) (send_wish true (Some w) m)
+    (record { low = refl; high = refl })
+    (command_follows w.asks Low (job_command sync_entity w.request) (with_job (Some w.stage) m)
+    (free_is m.low e).0 (proved_any m.low.proved false (free_is m.low e).1))
+
+-- what the job sends next
+pub job_follows : (m : Manager) → OutcomeFollows m (job_goes_on m)
+unfolding job_goes_on
+job_follows m = wish_follows (is_free m.low) (wish_in m.job) m refl
 
 -- ---- a second
 
-both_follow : (a : Outcome) (f : Manager → Outcome) (link : Link) (lives : ℕ) (unit : Option Onu)
-    (t : Told) (p : Channel)
-    → OutcomeFollows a link lives unit t p
-    → ((l : Link) (u : Told) (q : Channel) → Like l lives unit (Some a.manager) u q
-    → OutcomeFollows (f a.manager) l lives unit u q)
-    → OutcomeFollows (and_then a f) link lives unit t p
-both_follow a f link lives unit t p one two =
-    let b = f a.manager in
-    let next = two _ _ _ one.1 in
-    let split = sends_append a.sendings b.sendings in (
-      one.0 ++ next.0,
-      subst (λ hs. Like (link_read hs link) lives unit (Some b.manager) (tell_all hs t)
-          (after_moves (one.0 ++ next.0) p)) (sym split)
-          (subst (λ l. Like l lives unit (Some b.manager)
-          (tell_all (flat_map sends a.sendings ++ flat_map sends b.sendings) t)
-          (after_moves (one.0 ++ next.0) p))
-          (sym (link_append (flat_map sends a.sendings)
-          (flat_map sends b.sendings) link))
-          (subst (λ u. Like (link_read (flat_map sends b.sendings)
-          (link_read (flat_map sends a.sendings) link)) lives unit (Some b.manager) u
-          (after_moves (one.0 ++ next.0) p))
-          (sym (tell_append (flat_map sends a.sendings) (flat_map sends b.sendings) t))
-          (subst (λ q. Like (link_read (flat_map sends b.sendings)
-          (link_read (flat_map sends a.sendings) link)) lives unit (Some b.manager)
-          (tell_all (flat_map sends b.sendings) (tell_all (flat_map sends a.sendings) t)) q)
-          (sym (after_both one.0 next.0 p)) next.1))),
-    )
+ticked_takes : (tick : LaneTick) (l : Priority) (o : Option Waiting) (x : Lane) (m : Manager)
+    → (lane_ticked tick l o x m).taken ≡ []
+ticked_takes Quiet l o x m = refl
+ticked_takes Repeat l o x m = refl
+ticked_takes (GaveUp tci) l o x m = refl
 
-ticked_reports : (tick : LaneTick) (l : Priority) (x : Lane) (m : Manager) → GiveUps m.reports
-    → GiveUps (lane_ticked tick l x m).manager.reports
-ticked_reports Quiet l x m g = subst GiveUps (sym (reports_stay l x m)) g
-ticked_reports Repeat l x m g = subst GiveUps (sym (reports_stay l x m)) g
-ticked_reports (GaveUp tci) l x m g = one_give_up (with_lane l x m).reports tci
-    (subst GiveUps (sym (reports_stay l x m)) g)
+-- no reply is taken
+tick_takes : (l : Priority) (m : Manager) → (tick_lane l m).taken ≡ []
+tick_takes l m = ticked_takes (lane_tick (lane_in l m)).tick l (lane_in l m).outstanding
+    (lane_tick (lane_in l m)).lane m
 
-tick_reports : (l : Priority) (m : Manager) → GiveUps m.reports
-    → GiveUps (tick_lane l m).manager.reports
-tick_reports l m g = ticked_reports (lane_tick (lane_in l m)).tick l (lane_tick (lane_in l m)).lane
-    m g
+both_take : (a : Outcome) (f : Manager → Outcome) → a.taken ≡ [] → (f a.manager).taken ≡ []
+    → (and_then a f).taken ≡ []
+both_take a f e g = ap (λ ls. ls ++ (f a.manager).taken) e ∙ g
 
 tick_follows : (m : Manager) (n : Nodes) (t : Told) (p : Channel) → Rests n t p → n.ends.manager
     ≡ Some m → StepFollows (manager_did (after_tick m) n.ends) n t p
 unfolding after_tick
 tick_follows m n t p h e =
-    let l = n.link in
-    let like = subst (λ x. Like n.link n.ends.lives n.ends.unit x t p) e h.like in
-    let none : GiveUps m.reports = subst GiveUps (sym (h.reports m e)) tt in
-    did_follows (and_then (tick_lane High m) (tick_lane Low)) n t p
-    (tick_reports Low (tick_lane High m).manager (tick_reports High m none))
-    (both_follow (tick_lane High m) (tick_lane Low) n.link n.ends.lives n.ends.unit t p
-    (tick_lane_follows High n.link n.ends.lives n.ends.unit m t p like)
-    (λ l u q k. tick_lane_follows Low l n.ends.lives n.ends.unit (tick_lane High m).manager u q k))
+    own_follows (and_then high (tick_lane Low)) m n t p h e
+    (both_take high (tick_lane Low) (tick_takes High m) (tick_takes Low high.manager))
+    (both_follow m high (tick_lane Low) (tick_lane_follows High m)
+    (tick_lane_follows Low high.manager))
+  where
+    high : Outcome
+    high = tick_lane High m
 
-second_by : (o : Option Manager) (n : Nodes) (t : Told) (p : Channel) → Rests n t p → n.ends.manager
-    ≡ o → StepFollows (manager_ticks o n.ends) n t p
-second_by None n t p h e = no_step n t p h
-second_by (Some m) n t p h e = tick_follows m n t p h e
+manager_second : (o : Option Manager) (n : Nodes) (t : Told) (p : Channel) → Rests n t p
+    → n.ends.manager ≡ o → StepFollows (manager_ticks o n.ends) n t p
+manager_second None n t p h e = no_step n t p h
+manager_second (Some m) n t p h e = tick_follows m n t p h e
+
+kept_over : (u : Onu) → (onu_ticked u).kept ≡ u.kept
+unfolding onu_ticked
+kept_over u = refl
+
+-- the unit's second is no move
+unit_second : (o : Option Onu) (e : Ends) (link : Link) (t : Told) (p : Channel) → e.unit ≡ o
+    → Like link e.lives e.unit e.manager t p
+    → Happens (unit_ticks o e).happenings link (unit_ticks o e).ends.lives
+    (unit_ticks o e).ends.unit (unit_ticks o e).ends.manager t p
+unit_second None e link t p f h = ([], h)
+unit_second (Some u) e link t p f h = (
+  [],
+  like_same_kept link e.lives u (onu_ticked u) e.manager t p (kept_over u)
+      (subst (λ x. Like link e.lives x e.manager t p) f h),
+)
+
+second_by : (s : Step) (n : Nodes) (t : Told) (p : Channel) → StepFollows s n t p
+    → StepFollows (then_step s (λ after. unit_ticks after.unit after)) n t p
+second_by s n t p one =
+    then_happens s.happenings r.happenings n.link s.ends.lives r.ends.lives s.ends.unit
+    r.ends.unit s.ends.manager r.ends.manager t p one
+    (λ q k. unit_second s.ends.unit s.ends _ _ q refl k)
+  where
+    r : Step
+    r = unit_ticks s.ends.unit s.ends
 
 pub second_follows : (n : Nodes) (t : Told) (p : Channel) → Rests n t p
     → StepFollows (second n.ends) n t p
 unfolding second
-second_follows n t p h = second_by n.ends.manager n t p h refl
+second_follows n t p h =
+    second_by (manager_ticks n.ends.manager n.ends) n t p
+    (manager_second n.ends.manager n t p h refl)

@@ -10,7 +10,7 @@ use Rattle.message_spec.specs.declared.ContentsFault.TheVariants.{UnknownType, B
 use Rattle.message_spec.specs.Reading.{plain, message_of}
 use Rattle.frame_spec.specs.Baseline.{fault_of, packet_frame}
 use Rattle.tci_spec.specs.Tci.{packet_tci}
-use Rattle.unit_spec.specs.Onu.{Onu, Reception, Answer, answer, not_supported, asked, dropped, asks_nothing, unless_quiet, has_request_bits, if_request, for_message, for_frame, onu_received}
+use Rattle.unit_spec.specs.Onu.{Onu, Reception, Answer, answer, not_supported, take_request, drop_packet, asks_nothing, unless_quiet, has_request_bits, if_request, for_message, for_frame, onu_received}
 use Rattle.world_laws.proofs.Reading.{tci_read, noise_read}
 
 -- a packet with this TCI is taken as a request, whose answer has the same TCI
@@ -20,48 +20,22 @@ pub record IsAsked (tci : ℕ) (u : Onu) (r : Reception) : Type 0 where
   pub same : frame.tci ≡ tci
   pub reply : answer.reply.tci ≡ tci
   pub kept : answer.unit.kept ≡ u.kept
-  pub is : r ≡ asked frame answer u
+  pub is : r ≡ take_request frame answer u
 
 -- every answer has its request's TCI
 answer_tci : (f : Frame) (r : Request) (u : Onu) → (answer f r u).reply.tci ≡ f.tci
 unfolding answer plain
 answer_tci f (request.Create values) u = refl
-answer_tci f request.Delete u = refl
-answer_tci f (request.Set mask values) u = refl
-answer_tci f (request.Get mask) u = refl
-answer_tci f request.Reset u = refl
-answer_tci f (request.Alarms mode) u = refl
-answer_tci f (request.AlarmsNext number) u = refl
-answer_tci f request.Upload u = refl
-answer_tci f (request.UploadNext number) u = refl
-answer_tci f (request.Start window size targets target) u = refl
-answer_tci f (request.Section number bytes last) u = refl
-answer_tci f (request.End crc size targets target) u = refl
-answer_tci f (request.Activate flags) u = refl
-answer_tci f request.Commit u = refl
-answer_tci f (request.Reboot flags) u = refl
+answer_tci f _ u = refl
 
 -- and leaves the kept replies alone
 answer_kept : (f : Frame) (r : Request) (u : Onu) → (answer f r u).unit.kept ≡ u.kept
 unfolding answer
 answer_kept f (request.Create values) u = refl
-answer_kept f request.Delete u = refl
-answer_kept f (request.Set mask values) u = refl
-answer_kept f (request.Get mask) u = refl
-answer_kept f request.Reset u = refl
-answer_kept f (request.Alarms mode) u = refl
-answer_kept f (request.AlarmsNext number) u = refl
-answer_kept f request.Upload u = refl
-answer_kept f (request.UploadNext number) u = refl
-answer_kept f (request.Start window size targets target) u = refl
-answer_kept f (request.Section number bytes last) u = refl
-answer_kept f (request.End crc size targets target) u = refl
-answer_kept f (request.Activate flags) u = refl
-answer_kept f request.Commit u = refl
-answer_kept f (request.Reboot flags) u = refl
+answer_kept f _ u = refl
 
 unless_quiet_is : (quiet : Bool) (f : Frame) (r : Request) (u : Onu) (tci : ℕ) → f.tci ≡ tci
-    → (unless_quiet quiet f r u ≡ dropped u) ⊎ IsAsked tci u (unless_quiet quiet f r u)
+    → (unless_quiet quiet f r u ≡ drop_packet u) ⊎ IsAsked tci u (unless_quiet quiet f r u)
 unless_quiet_is true f r u tci e = inl refl
 unless_quiet_is false f r u tci e = inr (record {
   frame = f;
@@ -73,7 +47,7 @@ unless_quiet_is false f r u tci e = inr (record {
 })
 
 if_request_is : (bits : Bool) (f : Frame) (u : Onu) (tci : ℕ) → f.tci ≡ tci
-    → (if_request bits f u ≡ dropped u) ⊎ IsAsked tci u (if_request bits f u)
+    → (if_request bits f u ≡ drop_packet u) ⊎ IsAsked tci u (if_request bits f u)
 if_request_is true f u tci e = inr (record {
   frame = f;
   answer = not_supported f u;
@@ -85,7 +59,7 @@ if_request_is true f u tci e = inr (record {
 if_request_is false f u tci e = inl refl
 
 for_message_is : (m : Result Message ContentsFault) (f : Frame) (u : Onu) (tci : ℕ) → f.tci ≡ tci
-    → (for_message m f u ≡ dropped u) ⊎ IsAsked tci u (for_message m f u)
+    → (for_message m f u ≡ drop_packet u) ⊎ IsAsked tci u (for_message m f u)
 for_message_is (Ok (Asked t entity r)) f u tci e = unless_quiet_is (asks_nothing r) f r u tci e
 for_message_is (Ok (Answered t entity r)) f u tci e = inl refl
 for_message_is (Ok (Told t entity notice)) f u tci e = inl refl
@@ -94,19 +68,19 @@ for_message_is (Err (UnknownType number)) f u tci e = if_request_is (has_request
 for_message_is (Err (Bits kind)) f u tci e = inl refl
 
 for_frame_is : (o : Option Frame) (bytes : List ℕ) (u : Onu) → packet_frame bytes ≡ o
-    → (for_frame o u ≡ dropped u) ⊎ IsAsked (packet_tci bytes) u (for_frame o u)
+    → (for_frame o u ≡ drop_packet u) ⊎ IsAsked (packet_tci bytes) u (for_frame o u)
 for_frame_is None bytes u e = inl refl
 for_frame_is (Some f) bytes u e = for_message_is (message_of f) f u (packet_tci bytes)
     (tci_read bytes f e)
 
 -- a packet is dropped, or is a request with its TCI
 pub reception_is : (bytes : List ℕ) (u : Onu)
-    → (onu_received bytes u ≡ dropped u) ⊎ IsAsked (packet_tci bytes) u (onu_received bytes u)
+    → (onu_received bytes u ≡ drop_packet u) ⊎ IsAsked (packet_tci bytes) u (onu_received bytes u)
 unfolding onu_received
 reception_is bytes u = for_frame_is (packet_frame bytes) bytes u refl
 
 -- noise is dropped
 pub noise_received : (bytes : List ℕ) (u : Onu) → fault_of bytes ≢ None → onu_received bytes u
-    ≡ dropped u
+    ≡ drop_packet u
 unfolding onu_received
 noise_received bytes u h = ap (λ o. for_frame o u) (noise_read bytes h)

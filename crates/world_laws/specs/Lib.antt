@@ -1,3 +1,4 @@
 pub mod Worked
 pub mod Facts
 pub mod Seen
+pub mod WorkedCopies

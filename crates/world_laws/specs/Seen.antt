@@ -1,36 +1,36 @@
 -- What is seen of the machine over a script, and what of it stands in the history.
-use Rattle.std.specs.Prelude.{ℕ, ◌+◌, List, [], ◌∷◌, ◌++◌, Option, Some, None}
+use Rattle.std.specs.Prelude.{ℕ, ◌≡◌, Bool, true, false, List, [], ◌∷◌, ◌++◌, Some}
+use Rattle.omci_types.specs.declared.Frame.{Frame}
+use Rattle.frame_spec.specs.Baseline.{packet_frame}
 use Rattle.link_spec.specs.Link.{count}
-use Rattle.manager_spec.specs.declared.Report.{Report}
+use Rattle.mib_spec.specs.Database.{Database}
+use Rattle.upload_spec.specs.Pieces.{Copy}
 use Rattle.manager_spec.specs.declared.Report.TheVariants as report
-use Rattle.script_spec.specs.Script.{Script, Action}
-use Rattle.history_spec.specs.History.{Entry, CarriedOut, TookReply, Noted}
-use Rattle.world_spec.specs.declared.Effect.{Effect}
-use Rattle.world_spec.specs.declared.Effect.TheVariants as effect
-use Rattle.world_spec.specs.Happenings.{Happening, next_after}
+use Rattle.script_spec.specs.Script.{Header, Script, Action}
+use Rattle.history_spec.specs.History.{Entry, CarriedOut, TookReply, TookSnapshot, Synced, Remarked}
+use Rattle.world_spec.specs.Happenings.{Happening, UnitStarted, PacketCame, UnitCarried, UnitNoted, ReplyTaken, CopyTold, Reported, next_after}
 use Rattle.world_spec.specs.Ends.{factory_software}
 use Rattle.world_spec.specs.Nodes.{Nodes, step, first_nodes}
-use Rattle.world_spec.specs.Trace.{effect_of, line_text}
+use Rattle.world_spec.specs.Trace.{happening_text}
+use Rattle.world_spec.specs.History.{Told, first_told, tell, tell_all}
 
--- an effect, and the number of its event
+-- ---- the trace
+
+-- something that happened, the number of its event, and that of the next packet
 pub record Seen : Type 0 where
   pub event : ℕ
-  pub effect : Effect
+  pub next : ℕ
+  pub happening : Happening
 
-abbrev pub seen_at : ℕ → Effect → Seen
-seen_at event effect = record { event = event; effect = effect }
+abbrev pub seen_at : ℕ → ℕ → Happening → Seen
+seen_at event next h = record { event = event; next = next; happening = h }
 
-abbrev pub seen_if : ℕ → Option Effect → List Seen
-seen_if event None = []
-seen_if event (Some e) = seen_at event e ∷ []
-
--- what is seen of what happened in an event, whose first packet has that number
+-- what happened in an event, whose first packet has that number
 abbrev pub seen_in : ℕ → ℕ → List Happening → List Seen
 seen_in event next [] = []
-seen_in event next (h ∷ rest) =
-    seen_if event (effect_of next h) ++ seen_in event (next_after h next) rest
+seen_in event next (h ∷ rest) = seen_at event next h ∷ seen_in event (next_after h next) rest
 
--- what is seen over these lines
+-- what happened over these lines
 unfoldable pub seen_from : List Action → Nodes → List Seen
 seen_from [] n = []
 seen_from (a ∷ rest) n =
@@ -40,42 +40,82 @@ seen_from (a ∷ rest) n =
 -- and over a script, the unit's start before it
 abbrev pub all_seen : Script → List Seen
 all_seen s =
-    seen_at 0 (effect.UnitStarted 1 (factory_software s.header.factory))
+    seen_at 0 0 (UnitStarted 1 (factory_software s.header.factory))
     ∷ seen_from s.actions (first_nodes s.header)
 
--- its line in the trace
-abbrev pub line_of : Seen → List ℕ
-line_of s = line_text s.event s.effect
+-- its lines in the trace
+abbrev pub lines_of : Seen → List ℕ
+lines_of s = happening_text s.event s.next s.happening
 
--- what both the history and the trace tell
+-- ---- the history
+
+-- an entry of the history without its command
 pub data Deed : Type 0 where
-  CarriedIn : (life : ℕ) → Deed
-  TookOne : Deed
+  Carried : (life : ℕ) (reply : List ℕ) (before : Database) → Deed
+  Took : (packet : List ℕ) → Deed
+  PutBy : (life : ℕ) (database : Database) → Deed
+  Gave : (copy : Copy) → Deed
 
--- what the history tells, newest first
-abbrev pub deeds : List Entry → List Deed
-deeds [] = []
-deeds (CarriedOut life command reply before ∷ older) = CarriedIn life ∷ deeds older
-deeds (TookReply command reply ∷ older) = TookOne ∷ deeds older
-deeds (Noted note ∷ older) = deeds older
+abbrev pub deed_of : Entry → Deed
+deed_of (CarriedOut life command reply before) = Carried life reply before
+deed_of (TookReply command packet) = Took packet
+deed_of (Remarked (TookSnapshot life command database)) = PutBy life database
+deed_of (Remarked (Synced command copy)) = Gave copy
 
-abbrev pub with_report : Report → List Deed → List Deed
-with_report (report.Took reply) older = TookOne ∷ older
-with_report (report.Proved lane) older = older
-with_report (report.GaveUp tci) older = older
-with_report report.Dropped older = older
+-- the deeds after what happened, newest first, where that packet came last
+abbrev pub with_happening : Happening → List ℕ → List Deed → List Deed
+with_happening (UnitCarried life reply before) packet older = Carried life reply before ∷ older
+with_happening (UnitNoted life note before) packet older = PutBy life before ∷ older
+with_happening (ReplyTaken lane) packet older = Took packet ∷ older
+with_happening (CopyTold copy) packet older = Gave copy ∷ older
+with_happening _ packet older = older
 
-abbrev pub with_effect : Effect → List Deed → List Deed
-with_effect (effect.UnitStarted life software) older = older
-with_effect (effect.PacketSent number direction frame) older = older
-with_effect (effect.Carried life) older = CarriedIn life ∷ older
-with_effect effect.Kept older = older
-with_effect effect.Dropped older = older
-with_effect (effect.Refused why) older = older
-with_effect (effect.Reported what) older = with_report what older
-with_effect effect.NotEnabled older = older
+abbrev pub packet_after : Happening → List ℕ → List ℕ
+packet_after (PacketCame number packet) before = packet.bytes
+packet_after _ before = before
 
--- what is told by what is seen, newest first, before what is older
-abbrev pub deeds_seen : List Seen → List Deed → List Deed
-deeds_seen [] older = older
-deeds_seen (s ∷ later) older = deeds_seen later (with_effect s.effect older)
+-- the deeds after all that is seen, newest first, from these and the packet that came last
+abbrev pub deeds_after : List Seen → List ℕ → List Deed → List Deed
+deeds_after [] packet older = older
+deeds_after (s ∷ later) packet older =
+    deeds_after later (packet_after s.happening packet) (with_happening s.happening packet older)
+
+-- ---- the replies that are handed on
+
+-- the newest entry is that a packet was taken as a reply, and this is its frame
+abbrev pub IsNewest : Frame → List Entry → Type 0
+IsNewest reply [] = ⊥
+IsNewest reply (TookReply command packet ∷ older) = packet_frame packet ≡ Some reply
+IsNewest reply (CarriedOut life command packet before ∷ older) = ⊥
+IsNewest reply (Remarked remark ∷ older) = ⊥
+
+-- a reply was taken right before, and is the newest
+abbrev pub WasTaken : (taken : Bool) → Frame → List Entry → Type 0
+WasTaken true reply history = IsNewest reply history
+WasTaken false reply history = ⊥
+
+-- a reply is handed on right after it was taken, as the frame of the packet that was taken
+abbrev pub IsHandedOn : (taken : Bool) → Happening → List Entry → Type 0
+IsHandedOn taken (Reported (report.Took reply)) history = WasTaken taken reply history
+IsHandedOn taken _ history = Unit {0}
+
+abbrev pub is_taking : Happening → Bool
+is_taking (ReplyTaken lane) = true
+is_taking _ = false
+
+-- each reply that is handed on among these happenings
+abbrev pub AreHandedOn : (taken : Bool) → List Happening → Told → Type 0
+AreHandedOn taken [] t = Unit {0}
+AreHandedOn taken (h ∷ rest) t =
+    IsHandedOn taken h t.history × AreHandedOn (is_taking h) rest (tell h t)
+
+-- and in each of these lines
+unfoldable pub HandOn : List Action → Nodes → Told → Type 0
+HandOn [] n t = Unit {0}
+HandOn (a ∷ rest) n t =
+    AreHandedOn false (step a n).happenings t
+    × HandOn rest (step a n).nodes (tell_all (step a n).happenings t)
+
+-- and in a script
+abbrev pub ScriptHandsOn : Header → List Action → Type 0
+ScriptHandsOn h actions = HandOn actions (first_nodes h) first_told

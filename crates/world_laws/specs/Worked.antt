@@ -4,8 +4,8 @@ use Rattle.std.specs.Prelude.{ℕ, List, [], ◌∷◌, ◌++◌, codes}
 use Rattle.std.specs.List.{flat_map}
 use Rattle.omci_types.specs.declared.EntityId.{EntityId}
 use Rattle.omci_types.specs.declared.Priority.TheVariants.{Low, High}
-use Rattle.history_spec.specs.History.{Entry, CarriedOut, TookReply, Noted}
-use Rattle.script_spec.specs.Script.{Header, Script, Probe, Reset, Get, Create, Set, Delete, Deliver, Flow, NoiseUnit, NoiseOlt, Tick, CutUnit, CutOlt, StartUnit, StartOlt}
+use Rattle.history_spec.specs.History.{Entry, CarriedOut, TookReply, Remarked}
+use Rattle.script_spec.specs.Script.{Header, Script, Probe, Reset, Get, Deliver, Flow, NoiseUnit, NoiseOlt, Tick, CutUnit, CutOlt, StartUnit, StartOlt}
 use Rattle.world_spec.specs.History.{history_of}
 
 abbrev pub header : Header
@@ -257,104 +257,6 @@ manager_restarted_trace =
     ++ line (codes "10 sent 7 up 0003 0a reset-r 2 0 -")
     ++ line (codes "10 took 0003 0a reset-r 2 0 -")
 
--- a create, and a get of the counter after it
-unfoldable pub created_then_read : Script
-created_then_read = record {
-  header = header;
-  actions =
-      Probe Low ∷ Flow 2 ∷ Create Low (entity 272 5) (0 ∷ 48 ∷ []) ∷ Flow 2
-      ∷ Get Low onu_data 32768 ∷ Flow 2 ∷ [];
-}
-
-unfoldable pub created_then_read_trace : List ℕ
-created_then_read_trace =
-    unit_line
-    ++ line (codes "1 sent 0 down 0001 0a get 2 0 80")
-    ++ line (codes "2 carried 1")
-    ++ line (codes "2 sent 1 up 0001 0a get-r 2 0 0080")
-    ++ line (codes "2 proved low")
-    ++ line (codes "3 sent 2 down 0002 0a create 272 5 0030")
-    ++ line (codes "4 carried 1")
-    ++ line (codes "4 sent 3 up 0002 0a create-r 272 5 -")
-    ++ line (codes "4 took 0002 0a create-r 272 5 -")
-    ++ line (codes "5 sent 4 down 0003 0a get 2 0 80")
-    ++ line (codes "6 carried 1")
-    ++ line (codes "6 sent 5 up 0003 0a get-r 2 0 00800001")
-    ++ line (codes "6 took 0003 0a get-r 2 0 00800001")
-
--- a delete of what isn't there
-unfoldable pub deleted_absent : Script
-deleted_absent = record {
-  header = header;
-  actions =
-      Probe Low ∷ Flow 2 ∷ Delete Low (entity 272 9) ∷ Flow 2 ∷ [];
-}
-
-unfoldable pub deleted_absent_trace : List ℕ
-deleted_absent_trace =
-    unit_line
-    ++ line (codes "1 sent 0 down 0001 0a get 2 0 80")
-    ++ line (codes "2 carried 1")
-    ++ line (codes "2 sent 1 up 0001 0a get-r 2 0 0080")
-    ++ line (codes "2 proved low")
-    ++ line (codes "3 sent 2 down 0002 0a delete 272 9 -")
-    ++ line (codes "4 carried 1")
-    ++ line (codes "4 sent 3 up 0002 0a delete-r 272 9 05")
-    ++ line (codes "4 took 0002 0a delete-r 272 9 05")
-
--- a set of attributes that may not be written
-unfoldable pub set_refused : Script
-set_refused = record {
-  header = header;
-  actions =
-      Probe Low ∷ Flow 2 ∷ Set Low (entity 11 257) 3328 (1 ∷ 1 ∷ 6 ∷ 0 ∷ []) ∷ Flow 2 ∷ [];
-}
-
-unfoldable pub set_refused_trace : List ℕ
-set_refused_trace =
-    unit_line
-    ++ line (codes "1 sent 0 down 0001 0a get 2 0 80")
-    ++ line (codes "2 carried 1")
-    ++ line (codes "2 sent 1 up 0001 0a get-r 2 0 0080")
-    ++ line (codes "2 proved low")
-    ++ line (codes "3 sent 2 down 0002 0a set 11 257 0d00010106")
-    ++ line (codes "4 carried 1")
-    ++ line (codes "4 sent 3 up 0002 0a set-r 11 257 09000004")
-    ++ line (codes "4 took 0002 0a set-r 11 257 09000004")
-
--- a set of the counter, a get after it, a reset, and a get after that
-unfoldable pub counter_set_and_reset : Script
-counter_set_and_reset = record {
-  header = header;
-  actions =
-      Probe Low ∷ Flow 2 ∷ Set Low onu_data 32768 (255 ∷ []) ∷ Flow 2 ∷ Get Low onu_data 32768
-      ∷ Flow 2 ∷ Reset Low ∷ Flow 9 ∷ Get Low onu_data 32768 ∷ Flow 2 ∷ [];
-}
-
-unfoldable pub counter_set_and_reset_trace : List ℕ
-counter_set_and_reset_trace =
-    unit_line
-    ++ line (codes "1 sent 0 down 0001 0a get 2 0 80")
-    ++ line (codes "2 carried 1")
-    ++ line (codes "2 sent 1 up 0001 0a get-r 2 0 0080")
-    ++ line (codes "2 proved low")
-    ++ line (codes "3 sent 2 down 0002 0a set 2 0 8000ff")
-    ++ line (codes "4 carried 1")
-    ++ line (codes "4 sent 3 up 0002 0a set-r 2 0 -")
-    ++ line (codes "4 took 0002 0a set-r 2 0 -")
-    ++ line (codes "5 sent 4 down 0003 0a get 2 0 80")
-    ++ line (codes "6 carried 1")
-    ++ line (codes "6 sent 5 up 0003 0a get-r 2 0 008000ff")
-    ++ line (codes "6 took 0003 0a get-r 2 0 008000ff")
-    ++ line (codes "7 sent 6 down 0004 0a reset 2 0 -")
-    ++ line (codes "8 carried 1")
-    ++ line (codes "8 sent 7 up 0004 0a reset-r 2 0 -")
-    ++ line (codes "8 took 0004 0a reset-r 2 0 -")
-    ++ line (codes "9 sent 8 down 0005 0a get 2 0 80")
-    ++ line (codes "10 carried 1")
-    ++ line (codes "10 sent 9 up 0005 0a get-r 2 0 0080")
-    ++ line (codes "10 took 0005 0a get-r 2 0 0080")
-
 -- the number after 32,767 is 1
 unfoldable pub number_comes_round : Script
 number_comes_round = record {
@@ -376,7 +278,7 @@ number_comes_round_trace =
 abbrev pub command_of : Entry → List ℕ
 command_of (CarriedOut life command reply before) = command ∷ []
 command_of (TookReply command reply) = command ∷ []
-command_of (Noted note) = []
+command_of (Remarked remark) = []
 
 -- the commands of the entries of a script's history, newest first
 abbrev pub commands_in : Script → List ℕ

@@ -11,12 +11,19 @@ use Rattle.script_spec.specs.Script.{Header}
 use Rattle.link_spec.specs.declared.Direction.{Direction}
 use Rattle.link_spec.specs.declared.Direction.TheVariants.{Down, Up}
 use Rattle.link_spec.specs.Link.{Sent}
+use Rattle.mib_spec.specs.Database.{Database}
 use Rattle.unit_spec.specs.declared.Did.{Did}
 use Rattle.unit_spec.specs.declared.Did.TheVariants as did
-use Rattle.unit_spec.specs.Onu.{Onu, Reception, onu_started, onu_received}
+use Rattle.unit_spec.specs.declared.Note.{Note}
+use Rattle.upload_spec.specs.Pieces.{Copy}
+use Rattle.unit_spec.specs.Onu.{Onu, Reception, onu_started, onu_received, onu_ticked}
 use Rattle.manager_spec.specs.declared.Refusal.{Refusal}
-use Rattle.manager_spec.specs.Manager.{Manager, Outcome, Submission, Sending, manager_started, after_packet, after_tick}
-use Rattle.world_spec.specs.Happenings.{Happening, OfLane, OfArrival, UnitStarted, ManagerStarted, PacketCame, PacketSent, UnitCarried, UnitKept, UnitDropped, CommandDrawn, Reported, Refused, NotEnabled}
+use Rattle.manager_spec.specs.declared.Report.{Report}
+use Rattle.manager_spec.specs.declared.Report.TheVariants as report
+use Rattle.manager_spec.specs.Manager.{Manager, Outcome, Sending, manager_started}
+use Rattle.manager_spec.specs.Submitting.{Submission}
+use Rattle.manager_spec.specs.Steps.{after_packet, after_tick}
+use Rattle.world_spec.specs.Happenings.{Happening, OfLane, OfArrival, UnitStarted, ManagerStarted, PacketCame, PacketSent, UnitCarried, UnitNoted, UnitKept, UnitDropped, CommandDrawn, JobAsked, ReplyTaken, CopyTold, Reported, Refused, NotEnabled}
 
 -- how many lines of the script are done, how many lives the unit has had, the software in its slots, and the ends that are on
 pub record Ends : Type 0 where
@@ -64,6 +71,11 @@ not_enabled e = record { ends = e; happenings = NotEnabled ∷ [] }
 abbrev pub preceded : List Happening → Step → Step
 preceded first s = record { ends = s.ends; happenings = first ++ s.happenings }
 
+-- one step and then another
+abbrev pub then_step : Step → (Ends → Step) → Step
+then_step s next =
+    record { ends = (next s.ends).ends; happenings = s.happenings ++ (next s.ends).happenings }
+
 -- ---- the manager
 
 abbrev pub if_drawn : Bool → Priority → List Happening
@@ -73,29 +85,44 @@ if_drawn false lane = []
 abbrev pub goes_down : Priority → List ℕ → Happening
 goes_down lane bytes = PacketSent (OfLane lane) (record { direction = Down; bytes = bytes })
 
+abbrev pub if_asked : Bool → Priority → List Happening
+if_asked true lane = JobAsked lane ∷ []
+if_asked false lane = []
+
 -- a command is drawn, or sent again
 abbrev pub sends : Sending → List Happening
-sends s = if_drawn s.drawn s.lane ++ map (goes_down s.lane) s.packets
+sends s = if_drawn s.drawn s.lane ++ if_asked s.asks s.lane ++ map (goes_down s.lane) s.packets
 
--- the manager's reports are taken out, and then its packets go onto the link
+-- the copy is told after the report of a resynchronisation
+abbrev pub copy_told : Report → Option Copy → List Happening
+copy_told (report.Synced entities counter) (Some copy) = CopyTold copy ∷ []
+copy_told _ copy = []
+
+abbrev pub reported : Option Copy → Report → List Happening
+reported copy r = Reported r ∷ copy_told r copy
+
+-- the manager may take a reply; its reports are taken out, and then its packets go onto the link
 abbrev pub manager_did : Outcome → Ends → Step
 manager_did o e =
     record {
       ends = record e { manager = Some (record o.manager { reports = [] }) };
-      happenings = map Reported o.manager.reports ++ flat_map sends o.sendings;
+      happenings =
+          map ReplyTaken o.taken
+          ++ flat_map (reported o.manager.copy) o.manager.reports
+          ++ flat_map sends o.sendings;
     }
 
-abbrev pub submitted_as : Option Refusal → Outcome → Ends → Step
-submitted_as None o e = manager_did o e
-submitted_as (Some refusal) o e = record { ends = e; happenings = Refused refusal ∷ [] }
+abbrev pub submission_by : Option Refusal → Outcome → Ends → Step
+submission_by None o e = manager_did o e
+submission_by (Some refusal) o e = record { ends = e; happenings = Refused refusal ∷ [] }
 
-abbrev pub submitted : Submission → Ends → Step
-submitted s e = submitted_as s.refusal s.outcome e
+abbrev pub submission_step : Submission → Ends → Step
+submission_step s e = submission_by s.refusal s.outcome e
 
 -- a submission to a manager that is on
 abbrev pub submission : (Manager → Submission) → Option Manager → Ends → Step
 submission call None e = not_enabled e
-submission call (Some m) e = submitted (call m) e
+submission call (Some m) e = submission_step (call m) e
 
 abbrev pub manager_got : List Happening → List ℕ → Option Manager → Ends → Step
 manager_got first bytes None e = not_enabled e
@@ -110,11 +137,16 @@ manager_ticks (Some m) e = manager_did (after_tick m) e
 abbrev pub goes_up : List ℕ → Happening
 goes_up bytes = PacketSent OfArrival (record { direction = Up; bytes = bytes })
 
+abbrev pub noted : Option Note → ℕ → Database → List Happening
+noted None life before = []
+noted (Some note) life before = UnitNoted life note before ∷ []
+
 -- what the unit did with what came, and its reply
 abbrev pub unit_deed : Did → List ℕ → Onu → ℕ → List Happening
 unit_deed did.Dropped reply before life = UnitDropped ∷ []
 unit_deed did.Kept reply before life = UnitKept ∷ goes_up reply ∷ []
-unit_deed did.Carried reply before life = UnitCarried life reply before.database ∷ goes_up reply ∷ []
+unit_deed (did.Carried note) reply before life =
+    UnitCarried life reply before.database ∷ noted note life before.database ++ goes_up reply ∷ []
 
 abbrev pub unit_did : Reception → Onu → Ends → Step
 unit_did r before e =
@@ -143,8 +175,13 @@ noise direction bytes e = arrives_at direction [] bytes e
 
 -- ---- a second passes
 
+abbrev pub unit_ticks : Option Onu → Ends → Step
+unit_ticks None e = still e
+unit_ticks (Some u) e = still (record e { unit = Some (onu_ticked u) })
+
+-- for the manager, and then for the unit
 unfoldable pub second : Ends → Step
-second e = manager_ticks e.manager e
+second e = then_step (manager_ticks e.manager e) (λ after. unit_ticks after.unit after)
 
 -- ---- power
 

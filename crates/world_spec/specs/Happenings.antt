@@ -4,6 +4,8 @@ use Rattle.std.specs.Prelude.{ℕ, ◌+◌, List, [], ◌∷◌}
 use Rattle.omci_types.specs.declared.Priority.{Priority}
 use Rattle.omci_types.specs.declared.Software.{Software}
 use Rattle.mib_spec.specs.Database.{Database}
+use Rattle.upload_spec.specs.Pieces.{Copy}
+use Rattle.unit_spec.specs.declared.Note.{Note}
 use Rattle.manager_spec.specs.declared.Refusal.{Refusal}
 use Rattle.manager_spec.specs.declared.Report.{Report}
 use Rattle.link_spec.specs.Link.{Sent, Link, sent_on, delivered_on, emptied}
@@ -24,11 +26,19 @@ pub data Happening : Type 0 where
   PacketSent : (whose : Whose) (packet : Sent) → Happening
   -- in that life the unit carries out the request that came: its reply's packet, and the database before it
   UnitCarried : (life : ℕ) (reply : List ℕ) (before : Database) → Happening
+  -- what else is told of the request that was carried out in that life, on that database
+  UnitNoted : (life : ℕ) (note : Note) (before : Database) → Happening
   -- the unit gives the kept reply to what came, or does nothing with it
   UnitKept : Happening
   UnitDropped : Happening
   -- the manager draws the next command of a lane
   CommandDrawn : (lane : Priority) → Happening
+  -- by the command that the lane drew last the manager's job asks for a snapshot
+  JobAsked : (lane : Priority) → Happening
+  -- the manager takes what came as the reply to the lane's command, which isn't a probe
+  ReplyTaken : (lane : Priority) → Happening
+  -- the copy that a resynchronisation has given
+  CopyTold : (copy : Copy) → Happening
   -- the manager reports something, or refuses a submission
   Reported : (report : Report) → Happening
   Refused : (refusal : Refusal) → Happening
@@ -42,13 +52,7 @@ on_link (UnitStarted life software) l = emptied l
 on_link ManagerStarted l = emptied l
 on_link (PacketCame number packet) l = delivered_on number packet l
 on_link (PacketSent whose packet) l = sent_on packet l
-on_link (UnitCarried life reply before) l = l
-on_link UnitKept l = l
-on_link UnitDropped l = l
-on_link (CommandDrawn lane) l = l
-on_link (Reported report) l = l
-on_link (Refused refusal) l = l
-on_link NotEnabled l = l
+on_link _ l = l
 
 -- the link after all this
 abbrev pub link_read : List Happening → Link → Link
@@ -61,13 +65,7 @@ on_held (UnitStarted life software) l = held_emptied l
 on_held ManagerStarted l = held_emptied l
 on_held (PacketCame number packet) l = held_delivered number packet l
 on_held (PacketSent whose packet) l = held_sent packet l
-on_held (UnitCarried life reply before) l = l
-on_held UnitKept l = l
-on_held UnitDropped l = l
-on_held (CommandDrawn lane) l = l
-on_held (Reported report) l = l
-on_held (Refused refusal) l = l
-on_held NotEnabled l = l
+on_held _ l = l
 
 abbrev pub held_read : List Happening → Held → Held
 held_read [] l = l
@@ -75,17 +73,8 @@ held_read (h ∷ rest) l = held_read rest (on_held h l)
 
 -- the number of the next packet after it, from the number of the next packet before it
 abbrev pub next_after : Happening → ℕ → ℕ
-next_after (UnitStarted life software) next = next
-next_after ManagerStarted next = next
-next_after (PacketCame number packet) next = next
 next_after (PacketSent whose packet) next = next + 1
-next_after (UnitCarried life reply before) next = next
-next_after UnitKept next = next
-next_after UnitDropped next = next
-next_after (CommandDrawn lane) next = next
-next_after (Reported report) next = next
-next_after (Refused refusal) next = next
-next_after NotEnabled next = next
+next_after _ next = next
 
 abbrev pub next_after_all : List Happening → ℕ → ℕ
 next_after_all [] next = next

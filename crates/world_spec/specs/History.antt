@@ -3,27 +3,30 @@
 use Rattle.std.specs.Prelude.{ℕ, ◌+◌, List, [], ◌∷◌, ◌++◌, slice_get, Option, Some, None}
 use Rattle.omci_types.specs.declared.Priority.{Priority}
 use Rattle.omci_types.specs.declared.Priority.TheVariants.{Low, High}
-use Rattle.tci_spec.specs.Tci.{priority_of}
 use Rattle.script_spec.specs.Script.{Header, Action}
-use Rattle.manager_spec.specs.declared.Report.{Report}
-use Rattle.manager_spec.specs.declared.Report.TheVariants as report
-use Rattle.history_spec.specs.History.{Entry, CarriedOut, TookReply}
-use Rattle.world_spec.specs.Happenings.{Happening, Whose, OfLane, OfArrival, UnitStarted, ManagerStarted, PacketCame, PacketSent, UnitCarried, UnitKept, UnitDropped, CommandDrawn, Reported, Refused, NotEnabled}
+use Rattle.mib_spec.specs.Database.{Database}
+use Rattle.unit_spec.specs.declared.Note.{Note}
+use Rattle.unit_spec.specs.declared.Note.TheVariants as note
+use Rattle.history_spec.specs.History.{Entry, CarriedOut, TookReply, Remark, Remarked, TookSnapshot, Synced}
+use Rattle.world_spec.specs.Happenings.{Happening, Whose, OfLane, OfArrival, PacketCame, PacketSent, UnitCarried, UnitNoted, CommandDrawn, JobAsked, ReplyTaken, CopyTold}
 use Rattle.world_spec.specs.Nodes.{Nodes, step, first_nodes}
 
 -- How many commands were drawn, the command of each packet on the link (a reply has its request's), the command that each
--- lane drew last, the packet that came last with its command, and what has happened, newest first.
+-- lane drew last, that by which the manager's job asked last for a snapshot, the packet that came last with its command, and
+-- what has happened, newest first.
 pub record Told : Type 0 where
   pub drawn : ℕ
   pub names : List ℕ
   pub low : ℕ
   pub high : ℕ
+  pub asking : ℕ
   pub came : ℕ
   pub packet : List ℕ
   pub history : List Entry
 
 abbrev pub first_told : Told
-first_told = record { drawn = 0; names = []; low = 0; high = 0; came = 0; packet = []; history = [] }
+first_told =
+    record { drawn = 0; names = []; low = 0; high = 0; asking = 0; came = 0; packet = []; history = [] }
 
 -- the command that a lane drew last
 abbrev pub drawn_in : Priority → Told → ℕ
@@ -47,25 +50,20 @@ name_at number names = or_first (slice_get names number) where
 abbrev pub with_entry : Entry → Told → Told
 with_entry entry t = record t { history = entry ∷ t.history }
 
--- a reply that is taken to a command that isn't a probe answers the command that its lane drew last
-abbrev pub told_report : Report → Told → Told
-told_report (report.Took reply) t = with_entry (TookReply (drawn_in (priority_of reply.tci) t) t.packet) t
-told_report (report.Proved lane) t = t
-told_report (report.GaveUp tci) t = t
-told_report report.Dropped t = t
+-- what is remarked of a request that was carried out
+abbrev pub remark_of : ℕ → ℕ → Note → Database → Remark
+remark_of life command (note.Snapshot entities counter) before = TookSnapshot life command before
 
 abbrev pub tell : Happening → Told → Told
-tell (UnitStarted life software) t = t
-tell ManagerStarted t = t
 tell (PacketCame number packet) t = record t { came = name_at number t.names; packet = packet.bytes }
 tell (PacketSent whose packet) t = record t { names = t.names ++ name_of whose t ∷ [] }
 tell (UnitCarried life reply before) t = with_entry (CarriedOut life t.came reply before) t
-tell UnitKept t = t
-tell UnitDropped t = t
+tell (UnitNoted life note before) t = with_entry (Remarked (remark_of life t.came note before)) t
 tell (CommandDrawn lane) t = draws_in lane t
-tell (Reported what) t = told_report what t
-tell (Refused why) t = t
-tell NotEnabled t = t
+tell (JobAsked lane) t = record t { asking = drawn_in lane t }
+tell (ReplyTaken lane) t = with_entry (TookReply (drawn_in lane t) t.packet) t
+tell (CopyTold copy) t = with_entry (Remarked (Synced t.asking copy)) t
+tell _ t = t
 
 abbrev pub tell_all : List Happening → Told → Told
 tell_all [] t = t

@@ -2,11 +2,11 @@
 use Rattle.std.specs.Prelude.{ℕ, zero, suc, ◌+◌, List, [], ◌∷◌, ◌++◌, Option, Some, None, is_some}
 use Rattle.message_spec.specs.declared.Request.TheVariants as request
 use Rattle.frame_spec.specs.Widths.{filled}
-use Rattle.script_spec.specs.Script.{Header, Action, Probe, Reset, Get, Create, Set, Delete, Deliver, Flow, NoiseUnit, NoiseOlt, Tick, CutUnit, CutOlt, StartUnit, StartOlt}
+use Rattle.script_spec.specs.Script.{Header, Action, Probe, Reset, Get, Create, Set, Delete, Resync, Check, Deliver, Flow, NoiseUnit, NoiseOlt, Tick, CutUnit, CutOlt, StartUnit, StartOlt}
 use Rattle.link_spec.specs.declared.Direction.TheVariants.{Down, Up}
 use Rattle.link_spec.specs.Link.{Sent, Link, empty_link, allowed, fresh}
 use Rattle.lane_spec.specs.Command.{sync_entity}
-use Rattle.manager_spec.specs.Manager.{after_probe, after_submit}
+use Rattle.manager_spec.specs.Submitting.{after_probe, after_submit, after_check, after_resync}
 use Rattle.world_spec.specs.Happenings.{Happening, link_read}
 use Rattle.world_spec.specs.Ends.{Ends, Step, first_ends, still, not_enabled, submission, arrives, noise, second, cut_unit, cut_manager, start_unit, start_manager}
 
@@ -25,13 +25,13 @@ first_nodes h = record { ends = first_ends h; link = empty_link }
 
 -- ---- deliveries
 
-abbrev pub delivered_one : Option Sent → ℕ → Ends → Step
-delivered_one None number e = not_enabled e
-delivered_one (Some s) number e = arrives number s e
+abbrev pub delivery_of : Option Sent → ℕ → Ends → Step
+delivery_of None number e = not_enabled e
+delivery_of (Some s) number e = arrives number s e
 
 -- a delivery of that packet, which isn't enabled where it may not come or its end is off
-unfoldable pub delivered : ℕ → Nodes → Step
-delivered number n = delivered_one (allowed number n.link) number n.ends
+unfoldable pub delivery : ℕ → Nodes → Step
+delivery number n = delivery_of (allowed number n.link) number n.ends
 
 -- the nodes after a step of their ends
 abbrev pub nodes_after_step : Step → Nodes → Nodes
@@ -45,13 +45,13 @@ goes_on rest s n =
 
 abbrev pub flow_from : Option ℕ → (Nodes → Step) → Nodes → Step
 flow_from None rest n = still n.ends
-flow_from (Some number) rest n = goes_on rest (delivered number n) n
+flow_from (Some number) rest n = goes_on rest (delivery number n) n
 
 -- the number of the oldest fresh packet
 abbrev pub oldest_fresh : Nodes → Option ℕ
 oldest_fresh n = fresh (is_some n.ends.unit) (is_some n.ends.manager) n.link
 
--- the oldest fresh packet is delivered, so many times or until there is none
+-- the oldest fresh packet is delivery, so many times or until there is none
 unfoldable pub flow : ℕ → Nodes → Step
 flow zero n = still n.ends
 flow (suc times) n = flow_from (oldest_fresh n) (flow times) n
@@ -68,7 +68,9 @@ acted (Create lane entity values) n =
 acted (Set lane entity mask values) n =
     submission (after_submit lane entity (request.Set mask (filled 30 values))) n.ends.manager n.ends
 acted (Delete lane entity) n = submission (after_submit lane entity request.Delete) n.ends.manager n.ends
-acted (Deliver number) n = delivered number n
+acted Resync n = submission after_resync n.ends.manager n.ends
+acted Check n = submission after_check n.ends.manager n.ends
+acted (Deliver number) n = delivery number n
 acted (Flow times) n = flow times n
 acted (NoiseUnit bytes) n = noise Down bytes n.ends
 acted (NoiseOlt bytes) n = noise Up bytes n.ends
@@ -79,15 +81,15 @@ acted StartUnit n = start_unit n.ends.unit n.ends
 acted (StartOlt low high) n = start_manager low high n.ends.manager n.ends
 
 -- the next line of the script is begun
-abbrev pub counted : Nodes → Nodes
-counted n = record n { ends = record n.ends { event = n.ends.event + 1 } }
+abbrev pub next_event : Nodes → Nodes
+next_event n = record n { ends = record n.ends { event = n.ends.event + 1 } }
 
 abbrev pub turn_of : Step → Nodes → Turn
 turn_of s n = record { nodes = nodes_after_step s n; happenings = s.happenings }
 
 -- one line of a script
 unfoldable pub step : Action → Nodes → Turn
-step a n = turn_of (acted a (counted n)) n
+step a n = turn_of (acted a (next_event n)) n
 
 -- the nodes after these lines
 unfoldable pub nodes_after : List Action → Nodes → Nodes

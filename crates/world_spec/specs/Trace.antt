@@ -1,8 +1,10 @@
 -- The trace of a script: a line for each effect of what happens. The packets are numbered as they go onto the link.
 use Rattle.std.specs.Prelude.{ℕ, List, [], ◌∷◌, ◌++◌, Option, Some, None, codes}
+use Rattle.std.specs.List.{flat_map}
 use Rattle.std.specs.Int.{w16, w32, to_be_bytes}
 use Rattle.std.specs.Fmt.{decimal}
 use Rattle.hex.specs.Hex.{encode_lower}
+use Rattle.omci_types.specs.declared.EntityId.{EntityId}
 use Rattle.omci_types.specs.declared.SlotView.{SlotView}
 use Rattle.omci_types.specs.declared.Priority.{Priority}
 use Rattle.omci_types.specs.declared.Priority.TheVariants.{Low, High}
@@ -12,13 +14,23 @@ use Rattle.script_spec.specs.Script.{Script, Action}
 use Rattle.link_spec.specs.declared.Direction.{Direction}
 use Rattle.link_spec.specs.declared.Direction.TheVariants.{Down, Up}
 use Rattle.link_spec.specs.Link.{count}
+use Rattle.mib_spec.specs.Database.{Values, bytes_of}
+use Rattle.upload_spec.specs.Pieces.{mask_of}
+use Rattle.unit_spec.specs.declared.Note.{Note}
+use Rattle.unit_spec.specs.declared.Note.TheVariants as note
+use Rattle.manager_spec.specs.declared.Phase.{Phase}
+use Rattle.manager_spec.specs.declared.Phase.TheVariants as phase
+use Rattle.manager_spec.specs.declared.Job.{Job}
+use Rattle.manager_spec.specs.declared.Job.TheVariants as job
+use Rattle.manager_spec.specs.declared.ResyncReason.{ResyncReason}
+use Rattle.manager_spec.specs.declared.ResyncReason.TheVariants as reason
 use Rattle.manager_spec.specs.declared.Refusal.{Refusal}
 use Rattle.manager_spec.specs.declared.Refusal.TheVariants as refusal
 use Rattle.manager_spec.specs.declared.Report.{Report}
 use Rattle.manager_spec.specs.declared.Report.TheVariants as report
 use Rattle.world_spec.specs.declared.Effect.{Effect}
 use Rattle.world_spec.specs.declared.Effect.TheVariants as effect
-use Rattle.world_spec.specs.Happenings.{Happening, UnitStarted, ManagerStarted, PacketCame, PacketSent, UnitCarried, UnitKept, UnitDropped, CommandDrawn, Reported, Refused, NotEnabled, next_after}
+use Rattle.world_spec.specs.Happenings.{Happening, UnitStarted, PacketSent, UnitCarried, UnitNoted, UnitKept, UnitDropped, CopyTold, Reported, Refused, NotEnabled, next_after}
 use Rattle.world_spec.specs.Ends.{factory_software}
 use Rattle.world_spec.specs.Nodes.{Nodes, Turn, step, first_nodes}
 
@@ -41,17 +53,50 @@ abbrev pub lane_text : Priority → List ℕ
 lane_text Low = codes "low"
 lane_text High = codes "high"
 
+abbrev pub phase_text : Phase → List ℕ
+phase_text phase.New = codes "new"
+phase_text phase.InStep = codes "in"
+phase_text phase.Out = codes "out"
+
+abbrev pub job_text : Job → List ℕ
+job_text job.Resync = codes "resync"
+
+abbrev pub entity_text : EntityId → List ℕ
+entity_text one = decimal one.class ++ codes " " ++ decimal one.instance
+
+abbrev pub reason_text : ResyncReason → List ℕ
+reason_text (reason.GaveUp tci) = codes "gave-up " ++ tci_text tci
+reason_text reason.Empty = codes "empty"
+reason_text (reason.Truncated one) = codes "truncated " ++ entity_text one
+reason_text (reason.Repeated one attribute) =
+    codes "repeated " ++ entity_text one ++ codes " " ++ decimal attribute
+reason_text reason.Missing = codes "missing"
+
 abbrev pub refusal_text : Refusal → List ℕ
 refusal_text (refusal.Unproven lane) = codes "unproven " ++ lane_text lane
 refusal_text (refusal.Occupied tci) = codes "occupied " ++ tci_text tci
+refusal_text (refusal.OutOfStep p) = codes "out-of-step " ++ phase_text p
+refusal_text (refusal.JobRunning j) = codes "job " ++ job_text j
 refusal_text (refusal.ChangeOutstanding tci) = codes "change " ++ tci_text tci
 refusal_text refusal.NoMemory = codes "memory"
 
 abbrev pub report_text : Report → List ℕ
 report_text (report.Took reply) = codes "took " ++ message_text reply
 report_text (report.Proved lane) = codes "proved " ++ lane_text lane
+report_text (report.Freed tci) = codes "freed " ++ tci_text tci
 report_text (report.GaveUp tci) = codes "gave up " ++ tci_text tci
+report_text (report.Synced entities counter) =
+    codes "synced " ++ decimal entities ++ codes " " ++ decimal counter
+report_text report.PhaseIn = codes "phase in"
+report_text report.PhaseOut = codes "phase out"
+report_text (report.ResyncFailed why) = codes "resync failed " ++ reason_text why
+report_text (report.Checked given expected) =
+    codes "checked " ++ decimal given ++ codes " " ++ decimal expected
 report_text report.Dropped = codes "dropped"
+
+abbrev pub note_text : Note → List ℕ
+note_text (note.Snapshot entities counter) =
+    codes "snapshot " ++ decimal entities ++ codes " " ++ decimal counter
 
 unfoldable pub effect_text : Effect → List ℕ
 effect_text (effect.UnitStarted life s) =
@@ -59,6 +104,7 @@ effect_text (effect.UnitStarted life s) =
 effect_text (effect.PacketSent number direction frame) =
     codes "sent " ++ decimal number ++ codes " " ++ direction_text direction ++ codes " " ++ message_text frame
 effect_text (effect.Carried life) = codes "carried " ++ decimal life
+effect_text (effect.Noted what) = note_text what
 effect_text effect.Kept = codes "kept"
 effect_text effect.Dropped = codes "dropped"
 effect_text (effect.Refused why) = codes "refused " ++ refusal_text why
@@ -69,30 +115,52 @@ effect_text effect.NotEnabled = codes "not enabled"
 unfoldable pub line_text : ℕ → Effect → List ℕ
 line_text event e = decimal event ++ codes " " ++ effect_text e ++ codes "\n"
 
+-- bytes in hex, and `-` for none
+abbrev pub hex_text : List ℕ → List ℕ
+hex_text [] = codes "-"
+hex_text (byte ∷ rest) = encode_lower (byte ∷ rest)
+
+-- an entity of a copy, the mask of its attributes, and their values one after the other
+unfoldable pub entry_text : EntityId → (mask : ℕ) → (bytes : List ℕ) → List ℕ
+entry_text one mask bytes =
+    codes "copy " ++ entity_text one ++ codes " " ++ tci_text mask ++ codes " " ++ hex_text bytes
+
+-- its line
+unfoldable pub entry_line : ℕ → EntityId → (mask : ℕ) → (bytes : List ℕ) → List ℕ
+entry_line event one mask bytes =
+    decimal event ++ codes " " ++ entry_text one mask bytes ++ codes "\n"
+
+abbrev pub copy_line : ℕ → EntityId × Values → List ℕ
+copy_line event one = entry_line event one.0 (mask_of one.1) (bytes_of one.1)
+
 -- ---- the trace's reading of what happens
 
 -- what is seen of it, if anything, where that is the number of the next packet
 abbrev pub effect_of : ℕ → Happening → Option Effect
 effect_of next (UnitStarted life software) = Some (effect.UnitStarted life software)
-effect_of next ManagerStarted = None
-effect_of next (PacketCame number packet) = None
 effect_of next (PacketSent whose packet) = Some (effect.PacketSent next packet.direction (frame_of packet.bytes))
 effect_of next (UnitCarried life reply before) = Some (effect.Carried life)
+effect_of next (UnitNoted life note before) = Some (effect.Noted note)
 effect_of next UnitKept = Some effect.Kept
 effect_of next UnitDropped = Some effect.Dropped
-effect_of next (CommandDrawn lane) = None
 effect_of next (Reported what) = Some (effect.Reported what)
 effect_of next (Refused why) = Some (effect.Refused why)
 effect_of next NotEnabled = Some effect.NotEnabled
+effect_of next _ = None
 
 abbrev pub line_if : ℕ → Option Effect → List ℕ
 line_if event None = []
 line_if event (Some e) = line_text event e
 
+-- its lines: one for each entity of a copy that is told, one for an effect, or none
+abbrev pub happening_text : ℕ → ℕ → Happening → List ℕ
+happening_text event next (CopyTold copy) = flat_map (copy_line event) copy
+happening_text event next h = line_if event (effect_of next h)
+
 -- the lines of one event, whose first packet has that number
 abbrev pub lines_text : ℕ → ℕ → List Happening → List ℕ
 lines_text event next [] = []
-lines_text event next (h ∷ rest) = line_if event (effect_of next h) ++ lines_text event (next_after h next) rest
+lines_text event next (h ∷ rest) = happening_text event next h ++ lines_text event (next_after h next) rest
 
 -- the lines of a line of the script, from these nodes on
 abbrev pub turn_text : Nodes → Turn → List ℕ

@@ -4,6 +4,7 @@
 use link_spec::Direction;
 use manager_spec::{Refusal, Report};
 use omci_types::{Frame, Software};
+use unit_spec::Note;
 
 /// What is seen of the machine. Each is a line of the trace.
 #[derive(Clone, Copy, Debug, PartialEq, Eq)]
@@ -23,6 +24,8 @@ pub enum Effect {
     Carried {
         life: u64,
     },
+    /// What else is told of the request that the unit carried out.
+    Noted(Note),
     /// The unit gave its kept reply again.
     Kept,
     /// The unit did nothing with a packet.

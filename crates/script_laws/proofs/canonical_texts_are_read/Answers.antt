@@ -7,4 +7,5 @@ pub returns-clause-written : goal.returns-clause-written
 returns-clause-written c = canonical_written
 
 pub returns-clause-read : goal.returns-clause-read
-returns-clause-read c = λ script h. reading-Writes script (canonical script) (canonical_written script h)
+returns-clause-read c =
+    λ script h. reading-Writes script (canonical script) (canonical_written script h)

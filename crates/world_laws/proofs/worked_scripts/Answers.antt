@@ -37,18 +37,6 @@ returns-clause-unit_restarted c = traces.unit_restarted-is
 pub returns-clause-manager_restarted : goal.returns-clause-manager_restarted
 returns-clause-manager_restarted c = traces.manager_restarted-is
 
-pub returns-clause-created_then_read : goal.returns-clause-created_then_read
-returns-clause-created_then_read c = traces.created_then_read-is
-
-pub returns-clause-deleted_absent : goal.returns-clause-deleted_absent
-returns-clause-deleted_absent c = traces.deleted_absent-is
-
-pub returns-clause-set_refused : goal.returns-clause-set_refused
-returns-clause-set_refused c = traces.set_refused-is
-
-pub returns-clause-counter_set_and_reset : goal.returns-clause-counter_set_and_reset
-returns-clause-counter_set_and_reset c = traces.counter_set_and_reset-is
-
 pub returns-clause-number_comes_round : goal.returns-clause-number_comes_round
 returns-clause-number_comes_round c = traces.number_comes_round-is
 
@@ -63,6 +51,3 @@ returns-clause-unit_restarted_history c = histories.unit_restarted-is
 
 pub returns-clause-manager_restarted_history : goal.returns-clause-manager_restarted_history
 returns-clause-manager_restarted_history c = histories.manager_restarted-is
-
-pub returns-clause-created_then_read_history : goal.returns-clause-created_then_read_history
-returns-clause-created_then_read_history c = histories.created_then_read-is

@@ -3,4 +3,4 @@ use Rattle.omci_top.proofs.replay.replay.Goals as goal
 
 pub returns-in-Ok-clause-answers : goal.returns-in-Ok-clause-answers
 returns-in-Ok-clause-answers g c =
-    AnswersReplay-ends c.commands_act_once.ensures.once c.commands_act_once.ensures.answered c.answer.result c.in-Ok.input.items _ _ _ _ _ _ _ _ c.in-Ok.ensures.whole c.in-Ok.ensures.kept c.answer.ensures.ends
+    AnswersReplay-ends c.commands_act_once.ensures.once c.commands_act_once.ensures.answered c.copies_are_snapshots.ensures.synced c.answer.result.status c.answer.result.world c.in-Ok.input.items _ _ _ _ _ _ _ _ c.in-Ok.ensures.whole c.in-Ok.ensures.kept c.answer.ensures.ends

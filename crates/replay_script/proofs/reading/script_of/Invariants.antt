@@ -5,7 +5,8 @@ use Rattle.replay_script.proofs.reading.script_of.Given as goal
 
 abbrev pub invariant-loop-rest : goal.invariant-loop-rest
 invariant-loop-rest l =
-    (l.line + length l.rest ≤ 1 + length l.fn.bytes) × (script_reading l.line (lines_of l.rest) ≡ script_reading 1 (lines_of l.fn.bytes))
+    (l.line + length l.rest ≤ 1 + length l.fn.bytes)
+    × (script_reading l.line (lines_of l.rest) ≡ script_reading 1 (lines_of l.fn.bytes))
 
 abbrev pub decreases-loop-rest : goal.decreases-loop-rest
 decreases-loop-rest l = length l.rest

@@ -16,7 +16,11 @@ no_fault bytes frame h = by_fault (fault_of bytes) h
 
 pub returns-in-Ok : goal.returns-in-Ok
 returns-in-Ok c =
-    let faultless : fault_of c.in_ok-bytes.bytes ≡ None = ap fault_of (sym c.bytes-2.ensures.value) ∙ no_fault c.bytes-2.result.now c.in-Ok.field-0 (sym c.in-Ok.ensures.value) in
+    let faultless : fault_of c.in_ok-bytes.bytes ≡ None =
+    ap fault_of (sym c.bytes-2.ensures.value)
+    ∙ no_fault c.bytes-2.result.now c.in-Ok.field-0 (sym c.in-Ok.ensures.value) in
     record {
-      value = ap (λ r. r >>= λ bytes. noise_with (fault_of bytes) bytes) c.in_ok-bytes.ensures.value ∙ ap (λ found. noise_with found c.in_ok-bytes.bytes) faultless;
+      value =
+          ap (λ r. r >>= λ bytes. noise_with (fault_of bytes) bytes) c.in_ok-bytes.ensures.value
+          ∙ ap (λ found. noise_with found c.in_ok-bytes.bytes) faultless;
     }

@@ -3,4 +3,8 @@ use Rattle.script_laws.proofs.Words.{length-words_of}
 use Rattle.replay_script.proofs.words.word_count.Goals as goal
 
 pub returns : goal.returns
-returns c = record { value = ap (λ n. n + 1) c.spaces.ensures.value ∙ sym (length-words_of c.args.text.now) }
+returns c =
+    record {
+      value =
+          ap (λ n. n + 1) c.spaces.ensures.value ∙ sym (length-words_of c.args.text.now);
+    }

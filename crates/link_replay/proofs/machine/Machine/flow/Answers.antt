@@ -1,4 +1,4 @@
-use Rattle.std.proofs.Common.{◌≡◌, suc, ◌+◌, ◌-◌, sym, ◌∙◌, ap, subst, arith}
+use Rattle.std.proofs.Common.{◌≡◌, suc, ◌+◌, ◌-◌, subst, arith}
 use Rattle.link_replay.proofs.Flows.{FlowSoFar, flow_begins, flow_goes_on, flow_stops, flow_ends}
 use Rattle.link_replay.proofs.machine.Machine.flow.Goals as goal
 

@@ -1,18 +1,7 @@
-use Rattle.std.proofs.Common.{◌≡◌, ◌++◌, length, option_map, ◌∙◌, ap}
-use Rattle.manager_spec.specs.Manager.{packets_of, after_tick}
-use Rattle.olt_manager.specs.State.{State}
-use Rattle.link_replay.proofs.Following.{ticked_there}
-use Rattle.link_replay.proofs.Deliveries.{not_ticked}
+use Rattle.link_replay.proofs.Deliveries.{both_ticked}
 use Rattle.link_replay.proofs.machine.Machine.second.Goals as goal
 
 pub returns : goal.returns
-returns c =
-    let packets = c.in_ok-tick.ensures.packets ∙ ap (λ xs. xs ++ packets_of (after_tick c.in-Some.manager.manager).sendings) c.clear.ensures.empty in
-    record {
-      follows = ticked_there c.in-Some.manager c.tick.new.self _ c.args.self.now c.after_manager.new.self c.tick.new.out c.args.out.now.items c.after_manager.new.out.items
-          c.self.view_is (ap (option_map (λ (a : State). a.manager)) c.in-Some.is) c.in_ok-tick.ensures.manager packets
-          c.in_ok-after_manager.ensures.machine c.in_ok-after_manager.ensures.lines;
-    }
-
-pub returns-in_default : goal.returns-in_default
-returns-in_default c = record { follows = not_ticked _ c.args.self.now c.args.out.now.items c.self.view_is (ap (option_map (λ (a : State). a.manager)) c.in_default.is) }
+returns c = record {
+  follows = both_ticked c.args.self.now c.tick_manager.new.self c.tick_unit.new.self c.args.out.now.items c.tick_manager.new.out.items c.in_ok-tick_manager.ensures.follows c.tick_unit.ensures.ends;
+}

@@ -1,5 +1,6 @@
-use Rattle.std.proofs.Common.{◌≡◌, ◌++◌, length, option_map, ◌∙◌, ap}
-use Rattle.manager_spec.specs.Manager.{packets_of, after_submit}
+use Rattle.std.proofs.Common.{◌++◌, option_map, ◌∙◌, ap}
+use Rattle.manager_spec.specs.Manager.{packets_of}
+use Rattle.manager_spec.specs.Submitting.{after_submit}
 use Rattle.olt_manager.specs.State.{State}
 use Rattle.link_replay.proofs.Following.{accepted_there, refused_there}
 use Rattle.link_replay.proofs.machine.Machine.submit.Goals as goal

@@ -1,5 +1,6 @@
-use Rattle.std.proofs.Common.{◌≡◌, ◌++◌, length, option_map, ◌∙◌, ap}
-use Rattle.manager_spec.specs.Manager.{packets_of, after_packet}
+use Rattle.std.proofs.Common.{◌++◌, option_map, ◌∙◌, ap}
+use Rattle.manager_spec.specs.Manager.{packets_of}
+use Rattle.manager_spec.specs.Steps.{after_packet}
 use Rattle.olt_manager.specs.State.{State}
 use Rattle.link_replay.proofs.Following.{received_there}
 use Rattle.link_replay.proofs.machine.Machine.to_manager.Goals as goal

@@ -1,4 +1,4 @@
-use Rattle.std.proofs.Common.{◌≡◌, ◌+◌, ◌∙◌, ap}
+use Rattle.std.proofs.Common.{◌∙◌, ap}
 use Rattle.replay_script.specs.Events.{action_of}
 use Rattle.link_replay.specs.Seen.{Seen}
 use Rattle.link_replay.proofs.Flows.{counted_there, acted_nodes, acted_lines}

@@ -7,5 +7,9 @@ use Rattle.replay_script.proofs.script.Script.event.Goals as goal
 pub returns-clause-ranges : goal.returns-clause-ranges
 returns-clause-ranges c =
     let event = c.index.result.now in
-    let inside : c.args.place < length (map action_of c.self.inside.events.items) = omega (arith, ap (λ (s : Script). length s.actions) c.self.view_is) in
-    subst IsAction (get_or-map action_of c.self.inside.events.items c.args.place event ∙ ap action_of (sym c.index.ensures)) (c.self.invariant.actions c.args.place (action_of event) inside)
+    let inside : c.args.place < length (map action_of c.self.inside.events.items) =
+    omega (arith, ap (λ (s : Script). length s.actions) c.self.view_is) in
+    subst IsAction
+    (get_or-map action_of c.self.inside.events.items c.args.place event
+    ∙ ap action_of (sym c.index.ensures))
+    (c.self.invariant.actions c.args.place (action_of event) inside)

@@ -1,0 +1,3 @@
+pub mod Alarms
+pub mod Log
+pub mod Table

@@ -1,0 +1,184 @@
+//! A manager, what it sent last, and the unit's replies as they are made by hand.
+
+pub use class_spec::ONU_DATA;
+use olt_manager::{Manager, Phase, Report, ResyncReason};
+use omci_contents::{Message, Request, Response, has_valid_window, read_message, write_message};
+use omci_core::{Code, EntityId, NoMemory, Packets, Priority};
+use omci_frames::{encode, packet_frame};
+use std::alloc::Global;
+
+/// The request that probes and checks make.
+pub const GET_COUNTER: Request = Request::Get { mask: 0x8000 };
+
+pub fn entity(class: u16, instance: u16) -> EntityId {
+    EntityId { class, instance }
+}
+
+/// A piece of these fields. Every further byte is zero.
+pub fn piece(class: u16, instance: u16, mask: u16, values: &[u8]) -> [u8; 32] {
+    let (class, instance, mask) = (
+        class.to_be_bytes(),
+        instance.to_be_bytes(),
+        mask.to_be_bytes(),
+    );
+    let mut piece = [0; 32];
+    piece[0] = class[0];
+    piece[1] = class[1];
+    piece[2] = instance[0];
+    piece[3] = instance[1];
+    piece[4] = mask[0];
+    piece[5] = mask[1];
+    for place in 6..32usize {
+        piece[place] = values.get(place - 6).copied().unwrap_or(0);
+    }
+    piece
+}
+
+/// The piece that gives the unit's counter.
+pub fn counter_piece(counter: u8) -> [u8; 32] {
+    piece(2, 0, 0x8000, &[counter])
+}
+
+/// The answer to a get of the counter.
+pub fn counter_answer(code: Code, counter: u8) -> Response {
+    let mut values = [0; 25];
+    values[0] = counter;
+    Response::Get {
+        code,
+        mask: 0x8000,
+        values,
+        unsupported: 0,
+        failed: 0,
+    }
+}
+
+#[derive(Drop)]
+pub struct Harness {
+    pub manager: Manager,
+    /// What the last call sent.
+    pub out: Packets,
+}
+
+impl Harness {
+    /// A manager whose lanes draw 1 next.
+    pub fn new(alloc: Global) -> Harness {
+        Harness {
+            manager: Manager::start(alloc, 1, 1),
+            out: Packets::new(alloc),
+        }
+    }
+
+    /// A manager that begins a resynchronisation, and for which the unit answers both probes.
+    pub fn probed(alloc: Global) -> Result<Harness, NoMemory> {
+        let mut olt = Harness::new(alloc);
+        let _begun = olt.manager.resync(&mut olt.out);
+        olt.answer(0x8001, ONU_DATA, counter_answer(Code::SUCCESS, 0))?;
+        olt.answer(1, ONU_DATA, counter_answer(Code::SUCCESS, 0))?;
+        Ok(olt)
+    }
+
+    /// A manager that begins a resynchronisation, for which the unit announces so many pieces and
+    /// gives these. Its reports are taken out up to the probes'.
+    pub fn gathered(alloc: Global, count: u16, pieces: &[[u8; 32]]) -> Result<Harness, NoMemory> {
+        let mut olt = Harness::probed(alloc)?;
+        let _high = olt.manager.report();
+        let _low = olt.manager.report();
+        olt.answer(2, ONU_DATA, Response::Upload { count })?;
+        let mut tci = 3u16;
+        for piece in pieces {
+            olt.answer(tci, ONU_DATA, Response::UploadNext { piece: *piece })?;
+            tci = tci.wrapping_add(1);
+        }
+        Ok(olt)
+    }
+
+    /// A manager that is in step, with this counter. Its lanes draw 4 and 2 next.
+    pub fn in_step(alloc: Global, counter: u8) -> Result<Harness, NoMemory> {
+        let mut olt = Harness::gathered(alloc, 1, &[counter_piece(counter)])?;
+        let _synced = olt.manager.report();
+        let _in_step = olt.manager.report();
+        Ok(olt)
+    }
+
+    /// The unit answers under this TCI.
+    pub fn answer(
+        &mut self,
+        tci: u16,
+        entity: EntityId,
+        response: Response,
+    ) -> Result<(), NoMemory> {
+        let message = Message::Answered {
+            tci,
+            entity,
+            response,
+        };
+        let mut bytes = [0; 48];
+        if has_valid_window(&message) {
+            encode(&write_message(&message), &mut bytes);
+        }
+        self.out.clear();
+        self.manager.packet(&bytes, &mut self.out)
+    }
+
+    /// A second passes.
+    pub fn tick(&mut self) -> Result<(), NoMemory> {
+        self.out.clear();
+        self.manager.tick(&mut self.out)
+    }
+
+    /// Whether the last call sent this request in this place, under this TCI.
+    pub fn sends(&self, place: usize, tci: u16, entity: EntityId, request: Request) -> bool {
+        if place >= self.out.len() {
+            return false;
+        }
+        match packet_frame(self.out.get(place).bytes()) {
+            None => false,
+            Some(frame) => {
+                read_message(&frame)
+                    == Ok(Message::Asked {
+                        tci,
+                        entity,
+                        request,
+                    })
+            }
+        }
+    }
+
+    /// Whether exactly these reports wait. They are taken out.
+    pub fn reports(&mut self, wanted: &[Report]) -> bool {
+        for report in wanted {
+            if self.manager.report() != Some(*report) {
+                return false;
+            }
+        }
+        self.manager.report().is_none()
+    }
+
+    /// Whether a first resynchronisation has failed for this reason, and nothing is sent after it.
+    pub fn has_failed(&mut self, reason: ResyncReason) -> bool {
+        self.reports(&[Report::ResyncFailed { reason }])
+            && self.out.is_empty()
+            && self.manager.phase() == Phase::Out
+            && self.manager.job().is_none()
+            && self.manager.copy().is_none()
+    }
+
+    /// The counter of the copy, and how many entities it has.
+    pub fn copy(&self) -> Option<(u8, usize)> {
+        match self.manager.copy() {
+            None => None,
+            Some(copy) => Some((copy.counter(), copy.len())),
+        }
+    }
+
+    /// Submits a request over a lane, and answers whether it was taken.
+    pub fn submits(&mut self, lane: Priority, entity: EntityId, request: Request) -> bool {
+        if let Request::Start { .. } = request {
+            return false;
+        }
+        self.out.clear();
+        self.manager
+            .submit(lane, entity, request, &mut self.out)
+            .is_ok()
+    }
+}

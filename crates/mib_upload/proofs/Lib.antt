@@ -1,0 +1,8 @@
+pub mod Order
+pub mod Places
+pub mod Cutting
+pub mod Carried
+pub mod Taking
+pub mod Bits
+pub mod Overlays
+pub mod Joined

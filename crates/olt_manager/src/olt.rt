@@ -1,0 +1,186 @@
+//! The manager itself: its two lanes, its phase and its copy, the job that runs, and the reports
+//! that wait to be taken out.
+
+ghost use Rattle.std.specs.Prelude.{◌≡◌, ◌↔◌, ◌++◌, ◌&&◌, false, is_none, option_copied, None};
+ghost use Rattle.std.specs.Prelude.{OnOk, IsNone, option_to_list, []};
+ghost use Rattle.tci_spec.specs.Tci.{IsNumber};
+ghost use Rattle.manager_spec.specs.Manager.{manager_started, lane_in, with_report, leave_step};
+ghost use Rattle.manager_spec.specs.Manager.{step_lost, packets_of, command_sent};
+ghost use Rattle.olt_manager.specs.State.{AreFrames};
+ghost use Rattle.olt_manager.specs.Stages.{job_of};
+
+use crate::stage::Stage;
+use manager_spec::{Job, Phase, Report};
+use mib_upload::MibCopy;
+use olt_lanes::{Command, Lane};
+use omci_core::{NoMemory, Packets, Priority};
+use std::alloc::Global;
+use std::collections::VecDeque;
+use std::marker::Model;
+
+/// The state of a manager. [`Manager`](crate::Manager) holds it, and each of its calls may change
+/// it. After `NoMemory` it isn't used again.
+#[derive(Drop)]
+pub struct Olt {
+    pub(crate) alloc: Global,
+    pub(crate) low: Lane,
+    pub(crate) high: Lane,
+    pub(crate) phase: Phase,
+    pub(crate) copy: Option<MibCopy>,
+    pub(crate) job: Option<Stage>,
+    pub(crate) reports: VecDeque<Report>,
+}
+
+impl Model for Olt {
+    ghost use Rattle.std.specs.Prelude.{option_map};
+    ghost use Rattle.manager_spec.specs.Manager as machine;
+    ghost use Rattle.olt_manager.specs.Stages.{stage_of, IsJob};
+
+    ghost Value = { machine.Manager };
+
+    ghost view = { λ m. record {
+      low = m.low;
+      high = m.high;
+      phase = m.phase;
+      copy = m.copy;
+      job = option_map stage_of m.job;
+      reports = m.reports.items;
+    } };
+
+    ghost invariant = { λ m. IsJob m.job };
+}
+
+impl Olt {
+    /// Nothing is proved and nothing is outstanding, no job runs, and there is no copy.
+    pub fn start(alloc: Global, low: u16, high: u16) -> Olt
+        requires low { IsNumber low }
+        requires high { IsNumber high }
+        ensures started { result ≡ manager_started low high }
+    {
+        Olt {
+            alloc,
+            low: Lane::new(Priority::Low, low),
+            high: Lane::new(Priority::High, high),
+            phase: Phase::New,
+            copy: None,
+            job: None,
+            reports: VecDeque::new(alloc),
+        }
+    }
+
+    /// The lane of a priority.
+    pub fn lane(&self, priority: Priority) -> &Lane
+        ensures value { result.now ≡ lane_in priority self.now }
+    {
+        match priority {
+            Priority::Low => &self.low,
+            Priority::High => &self.high,
+        }
+    }
+
+    /// Sends a command over a lane that has none outstanding.
+    pub fn send(
+        &mut self,
+        priority: Priority,
+        command: Command,
+        out: &mut Packets,
+    ) -> Result<(), NoMemory>
+        requires idle { (lane_in priority self.old).outstanding ≡ None }
+        ensures manager { OnOk result
+            (self.new ≡ (command_sent false priority command self.old).manager) }
+        ensures packets { OnOk result
+            (out.new ≡ out.old
+            ++ packets_of (command_sent false priority command self.old).sendings) }
+        ensures whole { OnOk result
+            (AreFrames (packets_of (command_sent false priority command self.old).sendings)) }
+    {
+        match priority {
+            Priority::Low => {
+                self.low.send(command);
+                self.low.packets(out)?;
+            }
+            Priority::High => {
+                self.high.send(command);
+                self.high.packets(out)?;
+            }
+        }
+        Ok(())
+    }
+
+    /// Adds a report behind those that wait.
+    pub fn report(&mut self, report: Report) -> Result<(), NoMemory>
+        ensures manager { OnOk result (self.new ≡ with_report report self.old) }
+    {
+        self.reports.push_back(report)?;
+        Ok(())
+    }
+
+    /// A manager that is in step no longer is, and reports it.
+    pub fn leave_step(&mut self) -> Result<(), NoMemory>
+        ensures manager { OnOk result (self.new ≡ leave_step self.old) }
+    {
+        match self.phase {
+            Phase::New | Phase::Out => {}
+            Phase::InStep => {
+                self.phase = Phase::Out;
+                self.report(Report::PhaseOut)?;
+            }
+        }
+        Ok(())
+    }
+
+    /// The phase is out, which is reported where it was in step.
+    pub fn lose_step(&mut self) -> Result<(), NoMemory>
+        ensures manager { OnOk result (self.new ≡ step_lost self.old) }
+    {
+        self.leave_step()?;
+        self.phase = Phase::Out;
+        Ok(())
+    }
+
+    // ---- what callers read
+
+    /// Takes out the oldest report.
+    pub fn take_report(&mut self) -> Option<Report>
+        ensures oldest { self.old.reports ≡ option_to_list result ++ self.new.reports }
+        ensures none { IsNone result ↔ (self.old.reports ≡ []) }
+        ensures rest { self.new ≡ record self.old { reports = self.new.reports } }
+    {
+        self.reports.pop_front()
+    }
+
+    /// How the copy stands to the unit's database.
+    pub fn phase(&self) -> Phase
+        ensures value { result ≡ self.now.phase }
+    {
+        self.phase
+    }
+
+    /// The job that runs.
+    pub fn job(&self) -> Option<Job>
+        ensures value { result ≡ job_of self.now.job }
+    {
+        match &self.job {
+            None => None,
+            Some(_stage) => Some(Job::Resync),
+        }
+    }
+
+    /// Whether neither lane has a command outstanding and no job runs.
+    pub fn idle(&self) -> bool
+        ensures value { result ≡ (is_none self.now.low.outstanding
+            && (is_none self.now.high.outstanding && is_none self.now.job)) }
+    {
+        self.low.outstanding().is_none() && self.high.outstanding().is_none() && self.job.is_none()
+    }
+
+    /// The copy of the last resynchronisation, with the changes since.
+    pub fn copy(&self) -> Option<&MibCopy>
+        ensures value { option_copied result ≡ self.now.copy }
+    {
+        match &self.copy {
+            None => None,
+            Some(copy) => Some(copy),
+        }
+    }
+}

@@ -1,0 +1,181 @@
+//! Resynchronisation (ITU-T G.988, clause I.1.3, in this profile): both lanes are probed, the unit
+//! is asked to put its database by, and its pieces are gathered one after the other into a new
+//! copy.
+
+ghost use Rattle.std.specs.Prelude.{◌≡◌, ◌<◌, ◌≤◌, ◌^◌, ◌++◌, ◌&&◌, is_none, length, option_map};
+ghost use Rattle.std.specs.Prelude.{OnOk, IfSome};
+ghost use Rattle.message_spec.specs.Reading.{RequestWindow};
+ghost use Rattle.manager_spec.specs.Manager.{packets_of};
+ghost use Rattle.manager_spec.specs.Resync.{with_job, resync_failed, resync_done, all_gathered};
+ghost use Rattle.manager_spec.specs.Resync.{gather_on, piece_came, waits_for, wish_in, is_free};
+ghost use Rattle.manager_spec.specs.Resync.{job_goes_on};
+ghost use Rattle.manager_spec.specs.Steps.{job_probed};
+ghost use Rattle.olt_manager.specs.State.{AreFrames};
+ghost use Rattle.olt_manager.specs.Stages.{with_wish};
+
+use crate::olt::Olt;
+use crate::stage::Stage;
+use class_spec::ONU_DATA;
+use manager_spec::{Phase, Report, ResyncReason};
+use mib_upload::{Gather, GatherFault, MibCopy, Missing, PIECE_BYTES};
+use olt_lanes::{Command, Lane};
+use omci_contents::Request;
+use omci_core::{NoMemory, Packets, Priority};
+
+/// Whether the job may send over a lane.
+fn is_free(lane: &Lane) -> bool
+    ensures value { result ≡ is_free lane.now }
+{
+    !lane.unproven() && lane.outstanding().is_none()
+}
+
+impl Olt {
+    // ---- how it ends
+
+    /// The job has failed, and the phase is out.
+    pub fn fail_resync(&mut self, reason: ResyncReason) -> Result<(), NoMemory>
+        ensures manager { OnOk result (self.new ≡ resync_failed reason self.old) }
+    {
+        self.job = None;
+        self.report(Report::ResyncFailed { reason })?;
+        self.lose_step()?;
+        Ok(())
+    }
+
+    /// The new copy replaces the old one, and the phase is in step.
+    fn end_resync(&mut self, copy: MibCopy) -> Result<(), NoMemory>
+        requires few { length copy < 2 ^ 16 }
+        ensures manager { OnOk result (self.new ≡ resync_done copy self.old) }
+    {
+        let entities = copy.len() as u32;
+        let counter = copy.counter();
+        self.phase = Phase::InStep;
+        self.copy = Some(copy);
+        self.job = None;
+        self.report(Report::Synced { entities, counter })?;
+        self.report(Report::PhaseIn)?;
+        Ok(())
+    }
+
+    /// All pieces came; the counter has to be among them.
+    fn all_gathered(&mut self, gather: Gather) -> Result<(), NoMemory>
+        requires few { length gather.copy < 2 ^ 16 }
+        ensures manager { OnOk result (self.new ≡ all_gathered gather.copy self.old) }
+    {
+        match gather.finish() {
+            Ok(copy) => self.end_resync(copy)?,
+            Err(Missing) => self.fail_resync(ResyncReason::Missing)?,
+        }
+        Ok(())
+    }
+
+    // ---- what a reply does
+
+    /// A job that waits for the lane's probe no longer does.
+    pub fn probe_answered(&mut self, priority: Priority)
+        ensures manager { self.new ≡ with_job (job_probed priority self.old.job) self.old }
+    {
+        if let Some(Stage::Probing { high, low }) = self.job {
+            self.job = Some(match priority {
+                Priority::Low => Stage::Probing { high, low: false },
+                Priority::High => Stage::Probing { high: false, low },
+            });
+        }
+    }
+
+    /// The pieces before this number are gathered.
+    #[tactic(auto, unfolding(manager_spec::specs::Resync::gather_on))]
+    pub fn gather_on(&mut self, gather: Gather, next: u16) -> Result<(), NoMemory>
+        requires few { length gather.copy ≤ next }
+        ensures manager { OnOk result
+            (self.new ≡ gather_on gather.expected next gather.copy self.old) }
+    {
+        if gather.expected() <= next {
+            return self.all_gathered(gather);
+        }
+        self.job = Some(Stage::Gathering { gather, next });
+        Ok(())
+    }
+
+    /// The piece of this number came. One of an unknown class is passed over, and any other fault
+    /// ends the job.
+    #[tactic(auto, using(crate::proofs::Gathered::length_joined))]
+    pub fn piece_came(
+        &mut self,
+        mut gather: Gather,
+        next: u16,
+        piece: &[u8; PIECE_BYTES],
+    ) -> Result<(), NoMemory>
+        requires more { next < gather.expected }
+        requires few { length gather.copy ≤ next }
+        ensures manager { OnOk result
+            (self.new ≡ piece_came gather.expected next piece.now gather.copy self.old) }
+    {
+        let reason = match gather.add(piece) {
+            Ok(()) | Err(GatherFault::ClassUnknown { .. }) => {
+                return self.gather_on(gather, next + 1);
+            }
+            Err(GatherFault::Empty) => ResyncReason::Empty,
+            Err(GatherFault::Truncated { entity }) => ResyncReason::Truncated { entity },
+            Err(GatherFault::Repeated { entity, attribute }) => {
+                ResyncReason::Repeated { entity, attribute }
+            }
+            Err(GatherFault::NoMemory) => return Err(NoMemory),
+        };
+        self.fail_resync(reason)
+    }
+
+    // ---- what it waits for, and what it sends next
+
+    /// Whether the job waits for the lane's command.
+    pub fn waits_for(&self, priority: Priority) -> bool
+        ensures value { result ≡ waits_for priority self.now.job }
+    {
+        match (&self.job, priority) {
+            (None, _) => false,
+            (Some(Stage::Probing { high, .. }), Priority::High) => *high,
+            (Some(Stage::Probing { low, .. }), Priority::Low) => *low,
+            (Some(Stage::Asking), Priority::Low) => true,
+            (Some(Stage::Gathering { .. }), Priority::Low) => true,
+            (Some(_stage), Priority::High) => false,
+        }
+    }
+
+    /// What the job asks next, if anything; its stage is then the one that the request begins.
+    fn next_request(&mut self) -> Option<Request>
+        ensures request { result ≡ option_map (λ w. w.request) (wish_in self.old.job) }
+        ensures manager { self.new ≡ with_wish (wish_in self.old.job) self.old }
+        ensures window { IfSome result (λ request. RequestWindow request) }
+    {
+        match &self.job {
+            Some(
+                Stage::Probing {
+                    high: false,
+                    low: false,
+                },
+            ) => {
+                self.job = Some(Stage::Asking);
+                Some(Request::Upload)
+            }
+            Some(Stage::Gathering { next, .. }) => Some(Request::UploadNext { number: *next }),
+            _ => None,
+        }
+    }
+
+    /// The low lane, where it is free, sends what the job wants next.
+    #[tactic(auto, unfolding(manager_spec::specs::Resync::job_goes_on))]
+    pub fn job_goes_on(&mut self, out: &mut Packets) -> Result<(), NoMemory>
+        ensures manager { OnOk result (self.new ≡ (job_goes_on self.old).manager) }
+        ensures packets { OnOk result
+            (out.new ≡ out.old ++ packets_of (job_goes_on self.old).sendings) }
+        ensures whole { OnOk result (AreFrames (packets_of (job_goes_on self.old).sendings)) }
+    {
+        if !is_free(&self.low) {
+            return Ok(());
+        }
+        if let Some(request) = self.next_request() {
+            self.send(Priority::Low, Command::job(ONU_DATA, request), out)?;
+        }
+        Ok(())
+    }
+}

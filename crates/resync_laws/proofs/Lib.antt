@@ -1,0 +1,16 @@
+pub mod Tables
+pub mod Whole
+pub mod Databases
+pub mod Pieces
+pub mod Reading
+pub mod Unit
+pub mod Gathering
+pub mod Invariants
+pub mod Sending
+pub mod Telling
+pub mod Going
+pub mod Taking
+pub mod Serving
+pub mod Turns
+pub mod Lines
+pub mod Runs

@@ -1,0 +1,345 @@
+-- Each line of a script keeps all well.
+use Rattle.std.proofs.Common.{◌≡◌, ◌≢◌, ℕ, zero, suc, ◌+◌, ◌-◌, ◌<◌, ◌≤◌, ◌^◌, Bool, true, false, cond, List, [], ◌∷◌, ◌++◌, length, map, replicate, slice_get, Option, Some, None, ◌⊎◌, inl, inr, is_some, refl, sym, ap, subst, ◌∙◌, arith, append-nil, length-append}
+use Rattle.std.proofs.lemmas.Option.{same_Some}
+use Rattle.std.proofs.lemmas.List.{length-replicate, length-take-le}
+use Rattle.std.proofs.lemmas.List.Elements.{All-head, All-tail}
+use Rattle.std.specs.List.{All, Contains}
+use Rattle.omci_types.specs.declared.EntityId.{EntityId}
+use Rattle.omci_types.specs.declared.Priority.{Priority}
+use Rattle.omci_types.specs.declared.Priority.TheVariants.{Low, High}
+use Rattle.omci_types.specs.declared.SlotView.{SlotView}
+use Rattle.tci_spec.specs.Tci.{IsNumber, priority_of, packet_tci}
+use Rattle.message_spec.specs.declared.Request.{Request}
+use Rattle.message_spec.specs.declared.Request.TheVariants as request
+use Rattle.frame_spec.specs.Baseline.{fault_of, spelling, packet_frame}
+use Rattle.frame_spec.specs.Widths.{filled, front_filled}
+use Rattle.script_spec.specs.Script.{Header, Action, Probe, Reset, Get, Create, Set, Delete, Resync, Check, Deliver, Flow, NoiseUnit, NoiseOlt, Tick, CutUnit, CutOlt, StartUnit, StartOlt, IsAction}
+use Rattle.link_spec.specs.declared.Direction.{Direction}
+use Rattle.link_spec.specs.declared.Direction.TheVariants.{Down, Up}
+use Rattle.link_spec.specs.Link.{Sent, Link, Ways, way_of, lane_of, may_come, if_may_come, allowed_one, allowed, count, delivered_on}
+use Rattle.lane_spec.specs.Command.{sync_entity, is_probe, command_frame, command_packets}
+use Rattle.lane_spec.specs.Lane.{Lane, Waiting, waiting_packets}
+use Rattle.manager_spec.specs.declared.Refusal.{Refusal}
+use Rattle.manager_spec.specs.declared.Report.TheVariants as report
+use Rattle.manager_spec.specs.Manager.{Manager, Outcome, lane_in, with_report, manager_started}
+use Rattle.manager_spec.specs.Submitting.{Submission, unless_refused, probe_refusal, after_probe, submit_refusal, after_submit, check_refusal, after_check, resync_refusal, after_resync}
+use Rattle.manager_spec.specs.Steps.{packet_dropped, for_frame, after_packet, after_tick}
+use Rattle.unit_spec.specs.declared.Did.TheVariants as did
+use Rattle.unit_spec.specs.declared.Note.{Note}
+use Rattle.unit_spec.specs.Onu.{Onu, Snapshot, Reception, onu_started, onu_received, onu_ticked}
+use Rattle.history_spec.specs.History.{WasCarried, LastReply, SyncedRight}
+use Rattle.world_spec.specs.Happenings.{Happening, PacketCame, link_read}
+use Rattle.world_spec.specs.Ends.{Ends, Step, view_of, factory_software, first_ends, still, not_enabled, preceded, then_step, manager_did, submission_by, submission_step, submission, manager_got, manager_ticks, unit_did, unit_got, arrives_at, arrives, noise, unit_ticks, second, cut_unit, cut_manager, start_unit, start_manager}
+use Rattle.world_spec.specs.Nodes.{Nodes, Turn, first_nodes, delivery_of, delivery, nodes_after_step, goes_on, flow_from, oldest_fresh, flow, acted, next_event, turn_of, step, nodes_after}
+use Rattle.world_spec.specs.History.{Told, first_told, drawn_in, name_at, tell, tell_all, told_after, history_of}
+use Rattle.world_laws.specs.Facts.{AreReached, MayCome, MayBeCarriedOut, MayBeTaken, IsAwaited}
+use Rattle.resync_laws.specs.Databases.{IsWholeDatabase, HasVersions}
+use Rattle.resync_laws.proofs.Reading.{noise_read, is_plain}
+use Rattle.resync_laws.proofs.Databases.{first_whole}
+use Rattle.resync_laws.proofs.Unit.{noise_drops}
+use Rattle.resync_laws.proofs.Invariants.{Held, Good, held_of, good_of, JobOk}
+use Rattle.resync_laws.proofs.Telling.{tell_append, link_append, NoneSynced, none_more, Did, did_quiet, goes_nothing}
+use Rattle.resync_laws.proofs.Going.{job_none}
+use Rattle.resync_laws.proofs.Taking.{IsOwn, IsHeard, packet_good}
+use Rattle.resync_laws.proofs.Serving.{IsWaited, AreWaited, Served, unit_good}
+use Rattle.resync_laws.proofs.Turns.{probe_good, check_good, resync_good, submit_good, tick_good, IsOlder, ticked_older, nothing_older, stage_anew, good_older}
+
+-- all is well, and the images that the unit starts with have versions of their width
+pub record Fine (n : Nodes) (t : Told) : Type 0 where
+  pub good : Good n.link.packets n.ends.lives n.ends.unit n.ends.manager t
+  pub versions : HasVersions n.ends.software
+
+abbrev pub StepFine : Step → Nodes → Told → Type 0
+StepFine s n t = Fine (nodes_after_step s n) (tell_all s.happenings t)
+
+-- ---- one step and then another
+
+pub both_fine : (s r : Step) (n : Nodes) (t : Told)
+    → Fine (nodes_after_step r (nodes_after_step s n)) (tell_all r.happenings (tell_all s.happenings t))
+    → StepFine (record { ends = r.ends; happenings = s.happenings ++ r.happenings }) n t
+both_fine s r n t f =
+    let at : Link → Nodes = λ l. record { ends = r.ends; link = l } in
+    subst (λ l. Fine (at l) (tell_all (s.happenings ++ r.happenings) t)) (sym (link_append s.happenings r.happenings n.link))
+    (subst (λ u. Fine (at (link_read r.happenings (link_read s.happenings n.link))) u) (sym (tell_append s.happenings r.happenings t)) f)
+
+-- ---- what is asked of the manager
+
+did_fine : (o : Outcome) (n : Nodes) (t : Told) → Fine n t
+    → Did o n.link n.ends.lives n.ends.unit t → StepFine (manager_did o n.ends) n t
+did_fine o n t f d = record { good = d; versions = f.versions }
+
+submitted : (r : Option Refusal) (o : Outcome) (m : Manager) (n : Nodes) (t : Told) → Fine n t
+    → (r ≡ None → Did o n.link n.ends.lives n.ends.unit t)
+    → StepFine (submission_step (unless_refused r o m) n.ends) n t
+submitted None o m n t f d = did_fine o n t f (d refl)
+submitted (Some refusal) o m n t f d = record { good = f.good; versions = f.versions }
+
+not_enabled_fine : (n : Nodes) (t : Told) → Fine n t → StepFine (not_enabled n.ends) n t
+not_enabled_fine n t f = record { good = f.good; versions = f.versions }
+
+asked_fine : (call : Manager → Submission) (o : Option Manager) (n : Nodes) (t : Told) → Fine n t
+    → n.ends.manager ≡ o
+    → ((m : Manager) → Good n.link.packets n.ends.lives n.ends.unit (Some m) t
+    → StepFine (submission_step (call m) n.ends) n t)
+    → StepFine (submission call o n.ends) n t
+asked_fine call None n t f e d = not_enabled_fine n t f
+asked_fine call (Some m) n t f e d =
+    d m (subst (λ x. Good n.link.packets n.ends.lives n.ends.unit x t) e f.good)
+
+module _ (n : Nodes) (t : Told) (f : Fine n t) where
+  abbrev Managed : Manager → Type 0
+  Managed m = Good n.link.packets n.ends.lives n.ends.unit (Some m) t
+
+  held : (m : Manager) → Managed m → Held n.link.packets n.ends.unit m.low m.high t
+  held m g = held_of n.link.packets n.ends.lives n.ends.unit m t g
+
+  pub probe_fine : (lane : Priority) → StepFine (submission (after_probe lane) n.ends.manager n.ends) n t
+  unfolding after_probe
+  probe_fine lane =
+      asked_fine (after_probe lane) n.ends.manager n t f refl
+      (λ m g. submitted (probe_refusal lane m) _ m n t f (λ e. probe_good m n.link n.ends.lives n.ends.unit t (held m g) (g.job m refl) (g.reports m refl) lane e))
+
+  pub submit_fine : (lane : Priority) (entity : EntityId) (r : Request) → is_plain r ≡ true
+      → StepFine (submission (after_submit lane entity r) n.ends.manager n.ends) n t
+  unfolding after_submit
+  submit_fine lane entity r plainly =
+      asked_fine (after_submit lane entity r) n.ends.manager n t f refl
+      (λ m g. submitted (submit_refusal lane r m) _ m n t f (λ e. submit_good m n.link n.ends.lives n.ends.unit t (held m g) (g.job m refl) (g.reports m refl) lane entity r plainly e))
+
+  pub check_fine : StepFine (submission after_check n.ends.manager n.ends) n t
+  unfolding after_check
+  check_fine =
+      asked_fine after_check n.ends.manager n t f refl
+      (λ m g. submitted (check_refusal m) _ m n t f (λ e. check_good m n.link n.ends.lives n.ends.unit t (held m g) (g.job m refl) (g.reports m refl) e))
+
+  pub resync_fine : StepFine (submission after_resync n.ends.manager n.ends) n t
+  unfolding after_resync
+  resync_fine =
+      asked_fine after_resync n.ends.manager n t f refl
+      (λ m g. submitted (resync_refusal m) _ m n t f (λ e. resync_good m n.link n.ends.lives n.ends.unit t (held m g) (g.job m refl) (g.reports m refl) e))
+
+  -- ---- a second
+
+  manager_ticked : (o : Option Manager) → n.ends.manager ≡ o → StepFine (manager_ticks o n.ends) n t
+  manager_ticked None e = record { good = f.good; versions = f.versions }
+  manager_ticked (Some m) e =
+      let g : Managed m = subst (λ x. Good n.link.packets n.ends.lives n.ends.unit x t) e f.good in
+      did_fine (after_tick m) n t f (tick_good m n.link n.ends.lives n.ends.unit t (held m g) (g.job m refl) (g.reports m refl))
+
+  unit_ticked : (o : Option Onu) → n.ends.unit ≡ o → StepFine (unit_ticks o n.ends) n t
+  unfolding onu_ticked
+  unit_ticked None e = record { good = f.good; versions = f.versions }
+  unit_ticked (Some u) e = record {
+    good = good_older n.link.packets n.ends.lives n.ends.unit (Some (onu_ticked u)) n.ends.manager t
+        (subst (λ x. IsOlder x (Some (onu_ticked u))) (sym e) (ticked_older u))
+        (λ v k. subst (λ (x : Onu). IsWholeDatabase x.database) (same_Some (onu_ticked u) v k) (f.good.whole u e)) f.good;
+    versions = f.versions;
+  }
+
+  -- ---- power
+
+  pub cut_unit_fine : (o : Option Onu) → StepFine (cut_unit o n.ends) n t
+  cut_unit_fine None = not_enabled_fine n t f
+  cut_unit_fine (Some u) = record {
+    good = good_older n.link.packets n.ends.lives n.ends.unit None n.ends.manager t
+        (nothing_older n.ends.unit None (λ v s on has. absurd (cc))) (λ v e. absurd (cc)) f.good;
+    versions = f.versions;
+  }
+
+  pub cut_manager_fine : (o : Option Manager) → StepFine (cut_manager o n.ends) n t
+  cut_manager_fine None = not_enabled_fine n t f
+  cut_manager_fine (Some m) = record {
+    good = record {
+      sent = f.good.sent;
+      apart = λ x w e g. absurd (cc);
+      lanes = λ x e. absurd (cc);
+      job = λ x e. absurd (cc);
+      reports = λ x e. absurd (cc);
+      carried = f.good.carried;
+      whole = f.good.whole;
+      right = f.good.right;
+    };
+    versions = f.versions;
+  }
+
+  pub start_unit_fine : (o : Option Onu) → StepFine (start_unit o n.ends) n t
+  unfolding onu_started
+  start_unit_fine (Some u) = not_enabled_fine n t f
+  start_unit_fine None = record {
+    good = record {
+      sent = f.good.sent;
+      apart = f.good.apart;
+      lanes = f.good.lanes;
+      job = λ m e s g.
+          stage_anew n.ends.lives (n.ends.lives + 1) n.ends.unit (Some (onu_started n.ends.software)) m.low t.low t.asking t.history s
+          (λ v x on has. let a = ap (λ (y : Onu). y.snapshot) (same_Some (onu_started n.ends.software) v on) in absurd (cc)) (f.good.job m e s g);
+      reports = f.good.reports;
+      carried = f.good.carried;
+      whole = λ v e. subst (λ (x : Onu). IsWholeDatabase x.database) (same_Some (onu_started n.ends.software) v e) (first_whole n.ends.software f.versions);
+      right = f.good.right;
+    };
+    versions = f.versions;
+  }
+
+  pub start_manager_fine : (low high : ℕ) (o : Option Manager) → IsNumber low → StepFine (start_manager low high o n.ends) n t
+  start_manager_fine low high (Some m) a = not_enabled_fine n t f
+  start_manager_fine low high None a = record {
+    good = good_of n.link.packets n.ends.lives n.ends.unit (manager_started low high) t
+        (record {
+          sent = f.good.sent;
+          apart = λ w e. absurd (cc);
+          lanes = record {
+            priority = refl;
+            number = omega (arith, a.most);
+            low_out = λ w e. absurd (cc);
+            high_out = λ w e. absurd (cc);
+          };
+          carried = f.good.carried;
+          whole = f.good.whole;
+          right = f.good.right;
+        })
+        (job_none n.ends.lives n.ends.unit _ None t.low t.asking t.history refl) refl;
+    versions = f.versions;
+  }
+
+  -- ---- noise
+
+  unit_noise : (bytes : List ℕ) (o : Option Onu) → n.ends.unit ≡ o → packet_frame bytes ≡ None → StepFine (unit_got [] bytes o n.ends) n t
+  unit_noise bytes None e k = not_enabled_fine n t f
+  unit_noise bytes (Some u) e k =
+      subst (λ (r : Reception). StepFine (preceded [] (unit_did r u n.ends)) n t) (sym (noise_drops bytes u k))
+      (record { good = subst (λ x. Good n.link.packets n.ends.lives x n.ends.manager t) e f.good; versions = f.versions })
+
+  manager_noise : (bytes : List ℕ) (o : Option Manager) → n.ends.manager ≡ o → packet_frame bytes ≡ None → StepFine (manager_got [] bytes o n.ends) n t
+  unfolding after_packet
+  manager_noise bytes None e k = not_enabled_fine n t f
+  manager_noise bytes (Some m) e k =
+      let g : Managed m = subst (λ x. Good n.link.packets n.ends.lives n.ends.unit x t) e f.good in
+      subst (λ o. StepFine (preceded [] (manager_did (for_frame o m) n.ends)) n t) (sym k)
+      (did_fine (packet_dropped m) n t f
+      (did_quiet (packet_dropped m) n.link n.ends.lives n.ends.unit t t refl
+      (none_more m.reports report.Dropped (subst NoneSynced (sym (g.reports m refl)) tt) refl)
+      (goes_nothing (with_report report.Dropped m) n.link n.ends.lives n.ends.unit t (held m g) (g.job m refl))))
+
+pub second_fine : (n : Nodes) (t : Told) → Fine n t → StepFine (second n.ends) n t
+unfolding second
+second_fine n t f =
+    let s = manager_ticks n.ends.manager n.ends in
+    let one = manager_ticked n t f n.ends.manager refl in
+    both_fine s (unit_ticks s.ends.unit s.ends) n t
+    (unit_ticked (nodes_after_step s n) (tell_all s.happenings t) one s.ends.unit refl)
+
+pub noise_fine : (d : Direction) (bytes : List ℕ) (n : Nodes) (t : Told) → Fine n t → fault_of bytes ≢ None
+    → StepFine (noise d bytes n.ends) n t
+unfolding noise
+noise_fine Down bytes n t f k = unit_noise n t f bytes n.ends.unit refl (noise_read bytes k)
+noise_fine Up bytes n t f k = manager_noise n t f bytes n.ends.manager refl (noise_read bytes k)
+
+-- ---- deliveries
+
+-- what is known of the packets that may come next in the low lane
+pub record Linked (n : Nodes) (t : Told) : Type 0 where
+  pub waited : (number : ℕ) (s : Sent) (u : Onu) → n.ends.unit ≡ Some u → allowed number n.link ≡ Some s
+      → s.direction ≡ Down → AreWaited n.ends.manager t number s u
+  pub heard : (number : ℕ) (s : Sent) (m : Manager) → n.ends.manager ≡ Some m → allowed number n.link ≡ Some s
+      → s.direction ≡ Up → IsHeard m.low n.ends.lives t s.bytes
+
+allowed_by : (b : Bool) (x s : Sent) → if_may_come b x ≡ Some s → x ≡ s
+allowed_by true x s e = same_Some x s e
+allowed_by false x s e = absurd (cc)
+
+allowed_at : (i : ℕ) (o : Option Sent) (ways : Ways) (total : ℕ) (s : Sent) → allowed_one i o ways total ≡ Some s → o ≡ Some s
+allowed_at i None ways total s e = absurd (cc)
+allowed_at i (Some x) ways total s e = ap (λ y. Some y) (allowed_by (may_come i (way_of x ways) total) x s e)
+
+allowed_is : (i : ℕ) (l : Link) (s : Sent) → allowed i l ≡ Some s → slice_get l.packets i ≡ Some s
+unfolding allowed
+allowed_is i l s e = allowed_at i (slice_get l.packets i) l.ways (count l) s e
+
+-- the packet has come
+abbrev came_told : ℕ → Sent → Told → Told
+came_told number s t = record t { came = name_at number t.names; packet = s.bytes }
+
+held_came : (number : ℕ) (s : Sent) (packets : List Sent) (unit : Option Onu) (low high : Lane) (t : Told)
+    → Held packets unit low high t → Held packets unit low high (came_told number s t)
+held_came number s packets unit low high t h = record {
+  sent = h.sent;
+  apart = h.apart;
+  lanes = h.lanes;
+  carried = h.carried;
+  whole = h.whole;
+  right = h.right;
+}
+
+module _ (number : ℕ) (s : Sent) (n : Nodes) (t : Told) (f : Fine n t) (k : Linked n t) (may : allowed number n.link ≡ Some s) where
+  unit_arrives : (o : Option Onu) → n.ends.unit ≡ o → s.direction ≡ Down → StepFine (unit_got (PacketCame number s ∷ []) s.bytes o n.ends) n t
+  unit_arrives None e way = not_enabled_fine n t f
+  unit_arrives (Some u) e way = record {
+    good = unit_good number s n.link n.ends.lives u n.ends.manager t (subst (λ x. Good n.link.packets n.ends.lives x n.ends.manager t) e f.good)
+        (allowed_is number n.link s may) way (k.waited number s u e may way);
+    versions = f.versions;
+  }
+
+  manager_arrives : (o : Option Manager) → n.ends.manager ≡ o → s.direction ≡ Up → StepFine (manager_got (PacketCame number s ∷ []) s.bytes o n.ends) n t
+  manager_arrives None e way = not_enabled_fine n t f
+  manager_arrives (Some m) e way =
+      let g = subst (λ x. Good n.link.packets n.ends.lives n.ends.unit x t) e f.good in
+      record {
+        good = packet_good s.bytes m (delivered_on number s n.link) n.ends.lives n.ends.unit (came_told number s t)
+            (held_came number s n.link.packets n.ends.unit m.low m.high t (held_of n.link.packets n.ends.lives n.ends.unit m t g))
+            (g.job m refl) (g.reports m refl)
+            (λ w waits same lane probe. let x = k.heard number s m e may way w waits same lane probe in record { carried = x.carried; last = x.last });
+        versions = f.versions;
+      }
+
+  arrives_by : (d : Direction) → s.direction ≡ d → StepFine (arrives_at d (PacketCame number s ∷ []) s.bytes n.ends) n t
+  arrives_by Down way = unit_arrives n.ends.unit refl way
+  arrives_by Up way = manager_arrives n.ends.manager refl way
+
+  arrives_fine : StepFine (arrives number s n.ends) n t
+  unfolding arrives
+  arrives_fine = arrives_by s.direction refl
+
+delivery_by : (o : Option Sent) (number : ℕ) (n : Nodes) (t : Told) → Fine n t → Linked n t → allowed number n.link ≡ o
+    → StepFine (delivery_of o number n.ends) n t
+delivery_by None number n t f k may = not_enabled_fine n t f
+delivery_by (Some s) number n t f k may = arrives_fine number s n t f k may
+
+pub delivery_fine : (number : ℕ) (n : Nodes) (t : Told) → Fine n t → Linked n t → StepFine (delivery number n) n t
+unfolding delivery
+delivery_fine number n t f k = delivery_by (allowed number n.link) number n t f k refl
+
+-- ---- at first
+
+version_wide : (image : List ℕ) → length (front_filled 14 image) ≡ 14
+version_wide image =
+    let a = length-append image (replicate (14 - length image) 0) in
+    let b = length-replicate {A = ℕ} (14 - length image) 0 in
+    length-take-le 14 (filled 14 image) (omega (arith, a, b))
+
+factory_versions : (image : List ℕ) → HasVersions (factory_software image)
+factory_versions image = record {
+  first = λ view e. ap (λ (v : SlotView). length v.version) (sym (same_Some (view_of image) view e)) ∙ version_wide image;
+  second = λ view e. absurd (cc);
+}
+
+pub first_fine : (h : Header) → IsNumber h.low → Fine (first_nodes h) first_told
+unfolding onu_started
+first_fine h a = record {
+  good = good_of [] 1 (Some (onu_started (factory_software h.factory))) (manager_started h.low h.high) first_told
+      (record {
+        sent = tt;
+        apart = λ w e. absurd (cc);
+        lanes = record {
+          priority = refl;
+          number = omega (arith, a.most);
+          low_out = λ w e. absurd (cc);
+          high_out = λ w e. absurd (cc);
+        };
+        carried = λ life command was. absurd was;
+        whole = λ v e. subst (λ (x : Onu). IsWholeDatabase x.database) (same_Some (onu_started (factory_software h.factory)) v e) (first_whole (factory_software h.factory) (factory_versions h.factory));
+        right = tt;
+      })
+      (job_none 1 _ _ None 0 0 [] refl) refl;
+  versions = factory_versions h.factory;
+}

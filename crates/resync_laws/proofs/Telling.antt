@@ -1,0 +1,231 @@
+-- What is told of a step of the manager: of the replies that it took, of its reports, and of what it
+-- sent.
+use Rattle.std.proofs.Common.{◌≡◌, ℕ, ◌+◌, ◌<◌, ◌≤◌, Bool, true, false, cond, List, [], ◌∷◌, ◌++◌, length, map, Option, Some, None, refl, sym, ap, subst, ◌∙◌, append_assoc, append-nil}
+use Rattle.std.proofs.lemmas.Option.{same_Some}
+use Rattle.std.specs.List.{flat_map}
+use Rattle.omci_types.specs.declared.Priority.{Priority}
+use Rattle.omci_types.specs.declared.Priority.TheVariants.{Low, High}
+use Rattle.upload_spec.specs.Pieces.{Copy}
+use Rattle.link_spec.specs.Link.{Sent, Link}
+use Rattle.lane_spec.specs.Command.{Command}
+use Rattle.lane_spec.specs.Lane.{Lane, with_command}
+use Rattle.manager_spec.specs.declared.Report.{Report}
+use Rattle.manager_spec.specs.declared.Report.TheVariants as report
+use Rattle.manager_spec.specs.Manager.{Stage, Manager, Outcome, Sending, sends_nothing, and_then, command_sent}
+use Rattle.unit_spec.specs.Onu.{Onu}
+use Rattle.history_spec.specs.History.{Entry, TookReply, Remarked, Synced, LastSnapshot}
+use Rattle.world_spec.specs.Happenings.{Happening, ReplyTaken, on_link, link_read}
+use Rattle.world_spec.specs.Ends.{sends, copy_told, reported}
+use Rattle.world_spec.specs.History.{Told, drawn_in, tell, tell_all}
+use Rattle.resync_laws.proofs.Reading.{is_plain}
+use Rattle.resync_laws.proofs.Invariants.{AtStage, JobOk, Held, Good, good_of, is_job}
+use Rattle.resync_laws.proofs.Sending.{held_low, held_high}
+
+-- ---- one after the other
+
+pub tell_append : (xs ys : List Happening) (t : Told)
+    → tell_all (xs ++ ys) t ≡ tell_all ys (tell_all xs t)
+tell_append [] ys t = refl
+tell_append (x ∷ xs) ys t = tell_append xs ys (tell x t)
+
+pub link_append : (xs ys : List Happening) (l : Link)
+    → link_read (xs ++ ys) l ≡ link_read ys (link_read xs l)
+link_append [] ys l = refl
+link_append (x ∷ xs) ys l = link_append xs ys (on_link x l)
+
+pub sends_append : (a b : List Sending)
+    → flat_map sends (a ++ b) ≡ flat_map sends a ++ flat_map sends b
+sends_append [] b = refl
+sends_append (x ∷ a) b =
+    ap (λ l. sends x ++ l) (sends_append a b)
+    ∙ sym (append_assoc (sends x) (flat_map sends a) (flat_map sends b))
+
+-- ---- reports
+
+abbrev pub is_synced : Report → Bool
+is_synced (report.Took reply) = false
+is_synced (report.Proved lane) = false
+is_synced (report.Freed tci) = false
+is_synced (report.GaveUp tci) = false
+is_synced (report.Synced entities counter) = true
+is_synced report.PhaseIn = false
+is_synced report.PhaseOut = false
+is_synced (report.ResyncFailed why) = false
+is_synced (report.Checked given expected) = false
+is_synced report.Dropped = false
+
+-- none of them is that of a resynchronisation that has ended well
+abbrev pub NoneSynced : List Report → Type 0
+NoneSynced [] = Unit {0}
+NoneSynced (r ∷ rest) = (is_synced r ≡ false) × NoneSynced rest
+
+pub none_more : (rs : List Report) (r : Report) → NoneSynced rs → is_synced r ≡ false
+    → NoneSynced (rs ++ r ∷ [])
+none_more [] r h e = (e, tt)
+none_more (x ∷ rs) r h e = (h.0, none_more rs r h.1 e)
+
+quiet_one : (r : Report) (copy : Option Copy) → is_synced r ≡ false → copy_told r copy ≡ []
+quiet_one (report.Took reply) copy e = refl
+quiet_one (report.Proved lane) copy e = refl
+quiet_one (report.Freed tci) copy e = refl
+quiet_one (report.GaveUp tci) copy e = refl
+quiet_one (report.Synced entities counter) copy e = absurd (cc)
+quiet_one report.PhaseIn copy e = refl
+quiet_one report.PhaseOut copy e = refl
+quiet_one (report.ResyncFailed why) copy e = refl
+quiet_one (report.Checked given expected) copy e = refl
+quiet_one report.Dropped copy e = refl
+
+quiet_told : (rs : List Report) (copy : Option Copy) (t : Told) → NoneSynced rs
+    → tell_all (flat_map (reported copy) rs) t ≡ t
+quiet_told [] copy t h = refl
+quiet_told (r ∷ rs) copy t h =
+    ap (λ l. tell_all (l ++ flat_map (reported copy) rs) t) (quiet_one r copy h.0)
+    ∙ quiet_told rs copy t h.1
+
+link_one : (r : Report) (copy : Option Copy) (l : Link) → link_read (copy_told r copy) l ≡ l
+link_one (report.Took reply) copy l = refl
+link_one (report.Proved lane) copy l = refl
+link_one (report.Freed tci) copy l = refl
+link_one (report.GaveUp tci) copy l = refl
+link_one (report.Synced entities counter) None l = refl
+link_one (report.Synced entities counter) (Some copy) l = refl
+link_one report.PhaseIn copy l = refl
+link_one report.PhaseOut copy l = refl
+link_one (report.ResyncFailed why) copy l = refl
+link_one (report.Checked given expected) copy l = refl
+link_one report.Dropped copy l = refl
+
+link_told : (rs : List Report) (copy : Option Copy) (l : Link)
+    → link_read (flat_map (reported copy) rs) l ≡ l
+link_told [] copy l = refl
+link_told (r ∷ rs) copy l =
+    link_append (copy_told r copy) (flat_map (reported copy) rs) l
+    ∙ ap (link_read (flat_map (reported copy) rs)) (link_one r copy l)
+    ∙ link_told rs copy l
+
+link_taken : (lanes : List Priority) (l : Link) → link_read (map ReplyTaken lanes) l ≡ l
+link_taken [] l = refl
+link_taken (x ∷ lanes) l = link_taken lanes l
+
+-- ---- what a step comes to
+
+-- all that happens in it
+abbrev pub deeds_of : Outcome → List Happening
+deeds_of o =
+    map ReplyTaken o.taken
+    ++ flat_map (reported o.manager.copy) o.manager.reports
+    ++ flat_map sends o.sendings
+
+-- all is well after it, and its reports are taken out
+abbrev pub Did : Outcome → Link → ℕ → Option Onu → Told → Type 0
+Did o link lives unit t =
+    Good (link_read (deeds_of o) link).packets lives unit (Some (record o.manager { reports = [] }))
+    (tell_all (deeds_of o) t)
+
+-- all is well but for the reports, after what it sent
+pub record Goes (o : Outcome) (link : Link) (lives : ℕ) (unit : Option Onu) (t : Told) : Type 0 where
+  pub held : Held (link_read (flat_map sends o.sendings) link).packets unit o.manager.low
+      o.manager.high (tell_all (flat_map sends o.sendings) t)
+  pub job : JobOk lives unit o.manager.low o.manager.job (tell_all (flat_map sends o.sendings) t).low
+      (tell_all (flat_map sends o.sendings) t).asking (tell_all (flat_map sends o.sendings) t).history
+
+did_link : (o : Outcome) (link : Link)
+    → link_read (deeds_of o) link ≡ link_read (flat_map sends o.sendings) link
+did_link o link =
+    let taken = map ReplyTaken o.taken in
+    let told = flat_map (reported o.manager.copy) o.manager.reports in
+    let sent = flat_map sends o.sendings in
+    link_append (taken ++ told) sent link
+    ∙ ap (link_read sent) (link_append taken told link
+    ∙ ap (link_read told) (link_taken o.taken link)
+    ∙ link_told o.manager.reports o.manager.copy link)
+
+did_told : (o : Outcome) (t u v : Told) → tell_all (map ReplyTaken o.taken) t ≡ u
+    → tell_all (flat_map (reported o.manager.copy) o.manager.reports) u ≡ v
+    → tell_all (deeds_of o) t ≡ tell_all (flat_map sends o.sendings) v
+did_told o t u v e f =
+    let taken = map ReplyTaken o.taken in
+    let told = flat_map (reported o.manager.copy) o.manager.reports in
+    let sent = flat_map sends o.sendings in
+    tell_append (taken ++ told) sent t
+    ∙ ap (tell_all sent) (tell_append taken told t ∙ ap (tell_all told) e ∙ f)
+
+did_after : (o : Outcome) (link : Link) (lives : ℕ) (unit : Option Onu) (t u v : Told)
+    → tell_all (map ReplyTaken o.taken) t ≡ u
+    → tell_all (flat_map (reported o.manager.copy) o.manager.reports) u ≡ v
+    → Goes o link lives unit v → Did o link lives unit t
+did_after o link lives unit t u v e f g =
+    subst (λ l. Good l.packets lives unit (Some (record o.manager { reports = [] })) (tell_all (deeds_of o) t))
+    (sym (did_link o link))
+    (subst (λ x. Good (link_read (flat_map sends o.sendings) link).packets lives unit (Some (record o.manager { reports = [] })) x)
+    (sym (did_told o t u v e f))
+    (good_of _ lives unit (record o.manager { reports = [] }) _ g.held g.job refl))
+
+-- a step that ends no resynchronisation well
+pub did_quiet : (o : Outcome) (link : Link) (lives : ℕ) (unit : Option Onu) (t u : Told)
+    → tell_all (map ReplyTaken o.taken) t ≡ u → NoneSynced o.manager.reports
+    → Goes o link lives unit u → Did o link lives unit t
+did_quiet o link lives unit t u e none g =
+    did_after o link lives unit t u u e (quiet_told o.manager.reports o.manager.copy u none) g
+
+-- one that does
+abbrev pub synced_told : Copy → Told → Told
+synced_told copy u = record u { history = Remarked (Synced u.asking copy) ∷ u.history }
+
+pub did_sync : (o : Outcome) (copy : Copy) (entities counter : ℕ) (link : Link) (lives : ℕ)
+    (unit : Option Onu) (t u : Told)
+    → tell_all (map ReplyTaken o.taken) t ≡ u → o.manager.copy ≡ Some copy
+    → o.manager.reports ≡ report.Synced entities counter ∷ report.PhaseIn ∷ []
+    → Goes o link lives unit (synced_told copy u) → Did o link lives unit t
+did_sync o copy entities counter link lives unit t u e c r g =
+    did_after o link lives unit t u (synced_told copy u) e
+    (ap (λ rs. tell_all (flat_map (reported o.manager.copy) rs) u) r
+    ∙ ap (λ x. tell_all (flat_map (reported x) (report.Synced entities counter ∷ report.PhaseIn ∷ [])) u) c) g
+
+-- ---- steps that send
+
+pub goes_nothing : (m : Manager) (link : Link) (lives : ℕ) (unit : Option Onu) (t : Told)
+    → Held link.packets unit m.low m.high t
+    → JobOk lives unit m.low m.job t.low t.asking t.history
+    → Goes (sends_nothing m) link lives unit t
+goes_nothing m link lives unit t h j = record { held = h; job = j }
+
+pub goes_low : (asks : Bool) (c : Command) (m : Manager) (link : Link) (lives : ℕ)
+    (unit : Option Onu) (t : Told) → Held link.packets unit m.low m.high t
+    → m.low.outstanding ≡ None
+    → JobOk lives unit (with_command c m.low) m.job t.drawn (cond asks t.drawn t.asking) t.history
+    → Goes (command_sent asks Low c m) link lives unit t
+goes_low true c m link lives unit t h free j =
+    record { held = held_low true c link.packets unit m.low m.high t h free; job = j }
+goes_low false c m link lives unit t h free j =
+    record { held = held_low false c link.packets unit m.low m.high t h free; job = j }
+
+pub goes_high : (c : Command) (m : Manager) (link : Link) (lives : ℕ) (unit : Option Onu) (t : Told)
+    → Held link.packets unit m.low m.high t → m.high.outstanding ≡ None
+    → is_plain c.request ≡ true → is_job c.purpose ≡ false
+    → JobOk lives unit m.low m.job t.low t.asking t.history
+    → Goes (command_sent false High c m) link lives unit t
+goes_high c m link lives unit t h free plainly callers j =
+    record { held = held_high c link.packets unit m.low m.high t h free plainly callers; job = j }
+
+-- one and then another
+pub goes_both : (a : Outcome) (f : Manager → Outcome) (link : Link) (lives : ℕ) (unit : Option Onu)
+    (t : Told) → Goes a link lives unit t
+    → ((l : Link) (u : Told) → Goes (sends_nothing a.manager) l lives unit u
+    → Goes (f a.manager) l lives unit u)
+    → Goes (and_then a f) link lives unit t
+goes_both a f link lives unit t one two =
+    let hs = flat_map sends a.sendings in
+    let ks = flat_map sends (f a.manager).sendings in
+    let b : Manager = (f a.manager).manager in
+    let next = two (link_read hs link) (tell_all hs t) (record { held = one.held; job = one.job }) in
+    let split = sends_append a.sendings (f a.manager).sendings in
+    let link_is = ap (λ l. link_read l link) split ∙ link_append hs ks link in
+    let told_is = ap (λ l. tell_all l t) split ∙ tell_append hs ks t in
+    record {
+      held =
+          subst (λ l. Held l.packets unit b.low b.high (tell_all (flat_map sends (a.sendings ++ (f a.manager).sendings)) t)) (sym link_is)
+          (subst (λ u. Held (link_read ks (link_read hs link)).packets unit b.low b.high u) (sym told_is) next.held);
+      job = subst (λ u. JobOk lives unit b.low b.job u.low u.asking u.history) (sym told_is) next.job;
+    }

@@ -1,0 +1,114 @@
+//! Each call of the source and of the sink failing in turn, and a sink that takes one byte at a time.
+
+ghost use Rattle.std.specs.Prelude.{None};
+
+use crate::harness::{one, replay, run};
+use omci_core::{Failed, MemSource, NoMemory, Sink, Words};
+use omci_top::{Status, omci};
+use slot_disk::MemDisk;
+use std::alloc::Global;
+use std::test::Fail;
+
+/// A script of many kinds of lines.
+const SCRIPT: &[u8] =
+    b"# every kind of line\nomci 1 4096 1 1 ff\nprobe low\nflow 2\ncreate low 272 5 0030\r\nflow 2\nset low 272 5 8000 0040\nflow 2\nget low 272 5 8000\ndeliver 6\ndeliver 6\nflow 9\ndelete low 272 5\nflow 2\nreset low\nflow 2\nget low 272 5 8000\nflow 2\ndeliver 99";
+
+/// One read gives the script, and one finds its end.
+const READS: u64 = 2;
+
+#[test]
+fn each_read_that_fails_ends_the_run(rt: HostRuntime) -> Result<(), Fail> {
+    for call in 1..=READS {
+        let alloc = rt.alloc();
+        let outcome = run(
+            alloc,
+            &[b"replay"],
+            SCRIPT,
+            one(alloc, call)?,
+            Vec::new(alloc),
+        )?;
+        assert_eq!(rt; outcome.status, Status::ReadFault);
+        assert_eq!(rt; outcome.written.len(), 0);
+    }
+    let alloc = rt.alloc();
+    let outcome = run(
+        alloc,
+        &[b"replay"],
+        SCRIPT,
+        one(alloc, READS + 1)?,
+        Vec::new(alloc),
+    )?;
+    assert_eq!(rt; outcome.status, Status::Done);
+    Ok(())
+}
+
+#[test]
+fn a_write_that_fails_ends_the_run(rt: HostRuntime) -> Result<(), Fail> {
+    let alloc = rt.alloc();
+    let outcome = run(alloc, &[b"replay"], SCRIPT, Vec::new(alloc), one(alloc, 1)?)?;
+    assert_eq!(rt; outcome.status, Status::WriteFault);
+    assert_eq!(rt; outcome.written.len(), 0);
+    let outcome = run(alloc, &[b"replay"], SCRIPT, Vec::new(alloc), one(alloc, 2)?)?;
+    assert_eq!(rt; outcome.status, Status::Done);
+    Ok(())
+}
+
+/// A sink that takes one byte a call, and whose call of this number fails.
+#[derive(Drop)]
+struct Narrow {
+    taken: Vec<u8>,
+    calls: u64,
+    fails: u64,
+    faults: u64,
+}
+
+impl Sink for Narrow {
+    ghost written = { λ _. None };
+
+    ghost faults = { λ s. s.faults };
+
+    fn write(&mut self, from: &[u8]) -> Result<usize, Failed> {
+        self.calls = self.calls.saturating_add(1);
+        let Some(byte) = from.first() else {
+            return Ok(0);
+        };
+        if self.calls == self.fails || self.taken.push(*byte).is_err() {
+            self.faults = self.faults.saturating_add(1);
+            return Err(Failed);
+        }
+        Ok(1)
+    }
+}
+
+/// A run over a sink that takes one byte a call, and whose call of this number fails.
+fn run_narrow(alloc: Global, fails: u64) -> Result<(Status, Vec<u8>), NoMemory> {
+    let mut words = Words::new(alloc);
+    words.push(b"replay")?;
+    let mut source = MemSource::new(Vec::from_slice(alloc, SCRIPT)?, Vec::new(alloc));
+    let mut sink = Narrow {
+        taken: Vec::new(alloc),
+        calls: 0,
+        fails,
+        faults: 0,
+    };
+    let disk = MemDisk::new(alloc, 0)?;
+    let status = omci(alloc, &words, &mut source, &mut sink, disk).status;
+    let Narrow { taken, .. } = sink;
+    Ok((status, taken))
+}
+
+#[test]
+fn a_sink_may_take_a_byte_at_a_time(rt: HostRuntime) -> Result<(), Fail> {
+    let alloc = rt.alloc();
+    let whole = replay(alloc, SCRIPT)?;
+    assert_eq!(rt; whole.status, Status::Done);
+    let (status, written) = run_narrow(alloc, 0)?;
+    assert_eq!(rt; status, Status::Done);
+    assert_eq!(rt; written.as_slice(), whole.written.as_slice());
+    for place in 0..whole.written.len() {
+        let (status, written) = run_narrow(alloc, place as u64 + 1)?;
+        assert_eq!(rt; status, Status::WriteFault);
+        assert_eq!(rt; written.as_slice(), &whole.written[..place]);
+    }
+    Ok(())
+}

@@ -1,0 +1,5 @@
+//! Tests of the unit, whose manager is played by hand. The crate has tests alone.
+#![tactic(auto)]
+
+#[cfg(test)]
+mod uploads;

@@ -1,0 +1,179 @@
+-- What happens is made up for by moves, one thing after the other.
+use Rattle.std.proofs.Common.{◌≡◌, ℕ, List, [], ◌∷◌, ◌++◌, Option, Some, None, refl, sym, ap, subst, ◌∙◌, append_assoc}
+use Rattle.std.specs.Prelude.{map}
+use Rattle.std.specs.List.{flat_map}
+use Rattle.link_spec.specs.Link.{Link}
+use Rattle.upload_spec.specs.Pieces.{Copy}
+use Rattle.manager_spec.specs.declared.Report.{Report}
+use Rattle.manager_spec.specs.declared.Report.TheVariants as report
+use Rattle.manager_spec.specs.Manager.{Manager, Sending, Outcome, and_then}
+use Rattle.unit_spec.specs.Onu.{Onu}
+use Rattle.history_spec.specs.History.{Remark, Remarked, Synced}
+use Rattle.moves_spec.specs.Channel.{Channel}
+use Rattle.moves_spec.specs.Moves.{Write, after_moves}
+use Rattle.world_spec.specs.Happenings.{Happening, ReplyTaken, link_read, on_link}
+use Rattle.world_spec.specs.Ends.{sends, reported}
+use Rattle.world_spec.specs.History.{Told, tell, tell_all}
+use Rattle.world_laws.proofs.Likeness.{Like, Follows, after_both, SameLanes, like_same_lanes}
+
+-- ---- lists of happenings
+
+pub link_append : (hs gs : List Happening) (l : Link) → link_read (hs ++ gs) l
+    ≡ link_read gs (link_read hs l)
+link_append [] gs l = refl
+link_append (h ∷ hs) gs l = link_append hs gs (on_link h l)
+
+pub tell_append : (hs gs : List Happening) (t : Told) → tell_all (hs ++ gs) t
+    ≡ tell_all gs (tell_all hs t)
+tell_append [] gs t = refl
+tell_append (h ∷ hs) gs t = tell_append hs gs (tell h t)
+
+sends_append : (xs ys : List Sending) → flat_map sends (xs ++ ys)
+    ≡ flat_map sends xs ++ flat_map sends ys
+sends_append [] ys = refl
+sends_append (x ∷ xs) ys = ap (λ l. sends x ++ l) (sends_append xs ys)
+    ∙ sym (append_assoc (sends x) (flat_map sends xs) (flat_map sends ys))
+
+-- ---- moves for them
+
+-- moves make up for these happenings, after which the ends are so
+abbrev pub Happens : List Happening → Link → ℕ → Option Onu → Option Manager → Told → Channel
+    → Type 0
+Happens hs link lives unit manager t p =
+    Follows (link_read hs link) lives unit manager (tell_all hs t) p
+
+-- some happenings, and then others
+pub then_happens : (hs gs : List Happening) (link : Link) (lives lives_after : ℕ)
+    (unit unit_after : Option Onu) (manager manager_after : Option Manager) (t : Told) (p : Channel)
+    → Happens hs link lives unit manager t p
+    → ((q : Channel) → Like (link_read hs link) lives unit manager (tell_all hs t) q
+    → Happens gs (link_read hs link) lives_after unit_after manager_after (tell_all hs t) q)
+    → Happens (hs ++ gs) link lives_after unit_after manager_after t p
+then_happens hs gs link lives lives_after unit unit_after manager manager_after t p one two =
+    let next = two (after_moves one.0 p) one.1 in (
+      one.0 ++ next.0,
+      subst
+          (λ l. Like l lives_after unit_after manager_after (tell_all (hs ++ gs) t)
+          (after_moves (one.0 ++ next.0) p)) (sym (link_append hs gs link))
+          (subst
+          (λ u. Like (link_read gs (link_read hs link)) lives_after unit_after manager_after u
+          (after_moves (one.0 ++ next.0) p)) (sym (tell_append hs gs t))
+          (subst
+          (λ q. Like (link_read gs (link_read hs link)) lives_after unit_after manager_after
+          (tell_all gs (tell_all hs t)) q) (sym (after_both one.0 next.0 p)) next.1)),
+    )
+
+-- ---- remarks and reports
+
+-- something is remarked in the history
+pub remark_follows : (r : Remark) (link : Link) (lives : ℕ) (unit : Option Onu)
+    (manager : Option Manager) (t : Told) (p : Channel) → Like link lives unit manager t p
+    → Follows link lives unit manager (record t { history = Remarked r ∷ t.history }) p
+remark_follows r link lives unit manager t p h = (
+  Write r ∷ [],
+  record {
+    packets = h.packets;
+    ways = h.ways;
+    lives_are = h.lives_are;
+    drawn = h.drawn;
+    history = ap (λ x. Remarked r ∷ x) h.history;
+    unit_is = h.unit_is;
+    manager_is = h.manager_is;
+  },
+)
+
+report_follows : (r : Report) (copy : Option Copy) (link : Link) (lives : ℕ) (unit : Option Onu)
+    (manager : Option Manager) (t : Told) (p : Channel) → Like link lives unit manager t p
+    → Happens (reported copy r) link lives unit manager t p
+report_follows (report.Synced entities counter) (Some copy) link lives unit manager t p h =
+    remark_follows (Synced t.asking copy) link lives unit manager t p h
+report_follows (report.Synced entities counter) None link lives unit manager t p h = ([], h)
+report_follows _ copy link lives unit manager t p h = ([], h)
+
+-- reports, each with the copy that it tells
+pub reports_follow : (rs : List Report) (copy : Option Copy) (link : Link) (lives : ℕ)
+    (unit : Option Onu) (manager : Option Manager) (t : Told) (p : Channel)
+    → Like link lives unit manager t p
+    → Happens (flat_map (reported copy) rs) link lives unit manager t p
+reports_follow [] copy link lives unit manager t p h = ([], h)
+reports_follow (r ∷ rs) copy link lives unit manager t p h =
+    then_happens (reported copy r) (flat_map (reported copy) rs) link lives lives unit unit manager
+    manager t p (report_follows r copy link lives unit manager t p h)
+    (λ q k. reports_follow rs copy (link_read (reported copy r) link) lives unit manager
+    (tell_all (reported copy r) t) q k)
+
+-- ---- what the manager does
+
+-- what an outcome sends is moves, whatever happened before
+abbrev pub OutcomeFollows : Manager → Outcome → Type 0
+OutcomeFollows m o = (link : Link) (lives : ℕ) (unit : Option Onu) (t : Told) (p : Channel)
+    → Like link lives unit (Some m) t p
+    → Happens (flat_map sends o.sendings) link lives unit (Some o.manager) t p
+
+-- nothing is sent, and the lanes are left alone
+pub sends_none : (m : Manager) (o : Outcome) → SameLanes m o.manager → o.sendings ≡ []
+    → OutcomeFollows m o
+sends_none m o s e = λ link lives unit t p h.
+    subst (λ xs. Happens (flat_map sends xs) link lives unit (Some o.manager) t p) (sym e)
+    ([], like_same_lanes link lives unit m o.manager t p s h)
+
+-- what isn't a lane may change before
+pub from_same : (m n : Manager) (o : Outcome) → SameLanes m n → OutcomeFollows n o
+    → OutcomeFollows m o
+from_same m n o s f = λ link lives unit t p h. f link lives unit t p
+    (like_same_lanes link lives unit m n t p s h)
+
+pub both_follow : (m : Manager) (a : Outcome) (f : Manager → Outcome) → OutcomeFollows m a
+    → OutcomeFollows a.manager (f a.manager) → OutcomeFollows m (and_then a f)
+both_follow m a f one two = λ link lives unit t p h.
+    subst (λ hs. Happens hs link lives unit (Some (f a.manager).manager) t p)
+    (sym (sends_append a.sendings (f a.manager).sendings))
+    (then_happens (flat_map sends a.sendings) (flat_map sends (f a.manager).sendings) link lives
+    lives unit unit (Some a.manager) (Some (f a.manager).manager) t p (one link lives unit t p h)
+    (λ q k. two (link_read (flat_map sends a.sendings) link) lives unit
+    (tell_all (flat_map sends a.sendings) t) q k))
+
+-- the reports that were taken out don't matter
+cleared : (o : Manager) (link : Link) (lives : ℕ) (unit : Option Onu) (t : Told) (p : Channel)
+    → Follows link lives unit (Some o) t p
+    → Follows link lives unit (Some (record o { reports = [] })) t p
+cleared o link lives unit t p f = (
+  f.0,
+  like_same_lanes link lives unit o (record o { reports = [] }) t (after_moves f.0 p)
+      (record { low = refl; high = refl }) f.1,
+)
+
+reported_sends : (m : Manager) (o : Outcome) (link : Link) (lives : ℕ) (unit : Option Onu)
+    (t : Told) (p : Channel) → OutcomeFollows m o → Like link lives unit (Some m) t p
+    → Happens (flat_map (reported o.manager.copy) o.manager.reports ++ flat_map sends o.sendings)
+    link lives unit (Some (record o.manager { reports = [] })) t p
+reported_sends m o link lives unit t p f h =
+    then_happens (flat_map (reported o.manager.copy) o.manager.reports)
+    (flat_map sends o.sendings) link lives lives unit unit (Some m)
+    (Some (record o.manager { reports = [] })) t p
+    (reports_follow o.manager.reports o.manager.copy link lives unit (Some m) t p h)
+    (λ q k. cleared o.manager _ lives unit _ q (f _ lives unit _ q k))
+
+-- what happens with an outcome
+abbrev pub deeds_of : Outcome → List Happening
+deeds_of o =
+    map ReplyTaken o.taken
+    ++ flat_map (reported o.manager.copy) o.manager.reports
+    ++ flat_map sends o.sendings
+
+-- with what happened before, once the replies that were taken are told
+pub outcome_happens : (first : List Happening) (m : Manager) (o : Outcome) (link : Link)
+    (lives : ℕ) (unit : Option Onu) (t : Told) (p : Channel)
+    → Happens (first ++ map ReplyTaken o.taken) link lives unit (Some m) t p → OutcomeFollows m o
+    → Happens (first ++ deeds_of o) link lives unit (Some (record o.manager { reports = [] })) t p
+outcome_happens first m o link lives unit t p one f =
+    subst (λ hs. Happens hs link lives unit (Some (record o.manager { reports = [] })) t p)
+    (append_assoc first (map ReplyTaken o.taken)
+    (flat_map (reported o.manager.copy) o.manager.reports ++ flat_map sends o.sendings)
+    ∙ ap (λ hs. first ++ hs)
+    (sym (append_assoc (map ReplyTaken o.taken)
+    (flat_map (reported o.manager.copy) o.manager.reports) (flat_map sends o.sendings))))
+    (then_happens (first ++ map ReplyTaken o.taken)
+    (flat_map (reported o.manager.copy) o.manager.reports ++ flat_map sends o.sendings) link lives
+    lives unit unit (Some m) (Some (record o.manager { reports = [] })) t p one
+    (λ q k. reported_sends m o _ lives unit _ q f k))

@@ -1,0 +1,333 @@
+-- What in the manager's steps leaves its lanes alone, and which reports it adds.
+use Rattle.std.proofs.Common.{◌≡◌, ℕ, ◌==◌, Bool, true, false, List, [], ◌∷◌, ◌++◌, Option, Some, None, is_some, nat_le, ◌⊎◌, inl, inr, refl, sym, ap, subst, ◌∙◌, append_assoc}
+use Rattle.std.proofs.lemmas.List.{append-nil}
+use Rattle.omci_types.specs.declared.EntityId.{EntityId}
+use Rattle.omci_types.specs.declared.Frame.{Frame}
+use Rattle.omci_types.specs.declared.Priority.{Priority}
+use Rattle.omci_types.specs.declared.TheConstants.Code.{SUCCESS}
+use Rattle.message_spec.specs.declared.Request.{Request}
+use Rattle.message_spec.specs.declared.Response.{Response}
+use Rattle.message_spec.specs.declared.Response.TheVariants as response
+use Rattle.upload_spec.specs.declared.PieceFault.{PieceFault}
+use Rattle.upload_spec.specs.declared.PieceFault.TheVariants as fault
+use Rattle.upload_spec.specs.Pieces.{Copy}
+use Rattle.upload_spec.specs.Copies.{with_piece, piece_fault, copied_counter}
+use Rattle.lane_spec.specs.declared.Purpose.{Purpose}
+use Rattle.lane_spec.specs.declared.Purpose.TheVariants as purpose
+use Rattle.lane_spec.specs.Command.{Command, is_probe}
+use Rattle.manager_spec.specs.declared.Phase.{Phase}
+use Rattle.manager_spec.specs.declared.Phase.TheVariants as phase
+use Rattle.manager_spec.specs.declared.ResyncReason.{ResyncReason}
+use Rattle.manager_spec.specs.declared.ResyncReason.TheVariants as reason
+use Rattle.manager_spec.specs.declared.Report.{Report}
+use Rattle.manager_spec.specs.declared.Report.TheVariants as report
+use Rattle.manager_spec.specs.Manager.{Stage, Probing, Asking, Gathering, Manager, Outcome, and_then, with_report, phase_left, leave_step, step_lost}
+use Rattle.manager_spec.specs.Copying.{followed_if, followed}
+use Rattle.manager_spec.specs.Resync.{with_job, resync_failed, done_if_counted, gather_unless_all, gather_on, piece_by, send_wish, is_free, wish_in, Wish, job_goes_on}
+use Rattle.manager_spec.specs.Submitting.{leave_if}
+use Rattle.manager_spec.specs.Steps.{code_of, response_of, followed_by, expected_counter, compared, counters_compared, first_value, checked_if, checked_by, upload_by, piece_by_reply, job_by, taken_as, loss_seen}
+use Rattle.world_laws.proofs.Likeness.{SameLanes}
+
+-- ---- reports that hand no reply on
+
+abbrev pub IsQuiet : Report → Type 0
+IsQuiet (report.Took reply) = ⊥
+IsQuiet _ = Unit {0}
+
+abbrev pub AreQuiet : List Report → Type 0
+AreQuiet [] = Unit {0}
+AreQuiet (r ∷ rest) = IsQuiet r × AreQuiet rest
+
+pub both_quiet : (xs ys : List Report) → AreQuiet xs → AreQuiet ys → AreQuiet (xs ++ ys)
+both_quiet [] ys h k = k
+both_quiet (x ∷ xs) ys h k = (h.0, both_quiet xs ys h.1 k)
+
+-- the lanes are the same, and reports have come that hand no reply on
+pub record KeepsLanes (m n : Manager) : Type 0 where
+  pub same : SameLanes m n
+  pub added : List Report
+  pub quiet : AreQuiet added
+  pub reports : n.reports ≡ m.reports ++ added
+
+pub keeps_itself : (m : Manager) → KeepsLanes m m
+keeps_itself m = record {
+  same = record { low = refl; high = refl };
+  added = [];
+  quiet = tt;
+  reports = sym (append-nil m.reports);
+}
+
+keeps_both : (a b c : Manager) → KeepsLanes a b → KeepsLanes b c → KeepsLanes a c
+keeps_both a b c k j = record {
+  same = record { low = j.same.low ∙ k.same.low; high = j.same.high ∙ k.same.high };
+  added = k.added ++ j.added;
+  quiet = both_quiet k.added j.added k.quiet j.quiet;
+  reports = j.reports ∙ ap (λ rs. rs ++ j.added) k.reports
+      ∙ append_assoc a.reports k.added j.added;
+}
+
+keeps_reported : (r : Report) (m : Manager) → IsQuiet r → KeepsLanes m (with_report r m)
+keeps_reported r m q = record {
+  same = record { low = refl; high = refl };
+  added = r ∷ [];
+  quiet = (q, tt);
+  reports = refl;
+}
+
+-- ---- the phase
+
+left_keeps : (p : Phase) (m : Manager) → KeepsLanes m (phase_left p m)
+left_keeps phase.InStep m = record {
+  same = record { low = refl; high = refl };
+  added = report.PhaseOut ∷ [];
+  quiet = (tt, tt);
+  reports = refl;
+}
+left_keeps _ m = keeps_itself m
+
+pub leave_keeps : (m : Manager) → KeepsLanes m (leave_step m)
+leave_keeps m = left_keeps m.phase m
+
+pub leave_if_keeps : (b : Bool) (m : Manager) → KeepsLanes m (leave_if b m)
+leave_if_keeps true m = leave_keeps m
+leave_if_keeps false m = keeps_itself m
+
+lost_keeps : (m : Manager) → KeepsLanes m (step_lost m)
+lost_keeps m =
+    let k = leave_keeps m in
+    record {
+      same = record { low = k.same.low; high = k.same.high };
+      added = k.added;
+      quiet = k.quiet;
+      reports = k.reports;
+    }
+
+-- ---- the job
+
+failed_keeps : (why : ResyncReason) (m : Manager) → KeepsLanes m (resync_failed why m)
+failed_keeps why m = keeps_both m n (step_lost n) (record {
+  same = record { low = refl; high = refl };
+  added = report.ResyncFailed why ∷ [];
+  quiet = (tt, tt);
+  reports = refl;
+}) (lost_keeps n)
+  where
+    n : Manager
+    n = with_report (report.ResyncFailed why) (with_job None m)
+
+done_keeps : (counted : Bool) (copy : Copy) (m : Manager)
+    → KeepsLanes m (done_if_counted counted copy m)
+done_keeps true copy m = record {
+  same = record { low = refl; high = refl };
+  added = _;
+  quiet = (tt, (tt, tt));
+  reports = append_assoc m.reports (_ ∷ []) (report.PhaseIn ∷ []);
+}
+done_keeps false copy m = failed_keeps reason.Missing m
+
+gather_unless_keeps : (all : Bool) (expected next : ℕ) (copy : Copy) (m : Manager)
+    → KeepsLanes m (gather_unless_all all expected next copy m)
+gather_unless_keeps true expected next copy m = done_keeps (is_some (copied_counter copy)) copy m
+gather_unless_keeps false expected next copy m = record {
+  same = record { low = refl; high = refl };
+  added = [];
+  quiet = tt;
+  reports = sym (append-nil m.reports);
+}
+
+gather_keeps : (expected next : ℕ) (copy : Copy) (m : Manager)
+    → KeepsLanes m (gather_on expected next copy m)
+unfolding gather_on
+gather_keeps expected next copy m =
+    gather_unless_keeps (nat_le expected next) expected next copy m
+
+piece_keeps : (o : Option PieceFault) (expected next : ℕ) (piece : List ℕ) (copy : Copy)
+    (m : Manager) → KeepsLanes m (piece_by o expected next piece copy m)
+piece_keeps None expected next piece copy m = gather_keeps expected _ (with_piece piece copy) m
+piece_keeps (Some fault.Empty) expected next piece copy m = failed_keeps reason.Empty m
+piece_keeps (Some (fault.ClassUnknown class)) expected next piece copy m =
+    gather_keeps expected _ copy m
+piece_keeps (Some (fault.Truncated one)) expected next piece copy m =
+    failed_keeps (reason.Truncated one) m
+piece_keeps (Some (fault.Repeated one attribute)) expected next piece copy m =
+    failed_keeps (reason.Repeated one attribute) m
+
+upload_keeps : (r : Option Response) (f : Frame) (m : Manager) → KeepsLanes m (upload_by r f m)
+upload_keeps (Some (response.Upload count)) f m = gather_keeps count 0 [] m
+upload_keeps _ f m = keeps_reported (report.Freed f.tci) m tt
+
+reply_keeps : (r : Option Response) (expected next : ℕ) (copy : Copy) (f : Frame) (m : Manager)
+    → KeepsLanes m (piece_by_reply r expected next copy f m)
+reply_keeps (Some (response.UploadNext piece)) expected next copy f m =
+    piece_keeps (piece_fault piece copy) expected next piece copy m
+reply_keeps _ expected next copy f m = keeps_reported (report.Freed f.tci) m tt
+
+job_keeps : (job : Option Stage) (r : Option Response) (f : Frame) (m : Manager)
+    → KeepsLanes m (job_by job r f m)
+job_keeps None r f m = keeps_reported (report.Freed f.tci) m tt
+job_keeps (Some (Probing high low)) r f m = keeps_reported (report.Freed f.tci) m tt
+job_keeps (Some Asking) r f m = upload_keeps r f m
+job_keeps (Some (Gathering expected next copy)) r f m = reply_keeps r expected next copy f m
+
+pub loss_keeps : (waits changes : Bool) (tci : ℕ) (m : Manager)
+    → KeepsLanes m (loss_seen waits changes tci m)
+loss_keeps true changes tci m = failed_keeps (reason.GaveUp tci) m
+loss_keeps false true tci m = leave_keeps m
+loss_keeps false false tci m = keeps_itself m
+
+-- and a report that a command was given up comes before it
+pub give_up_keeps : (waits changes : Bool) (tci : ℕ) (m : Manager)
+    → KeepsLanes m (loss_seen waits changes tci (with_report (report.GaveUp tci) m))
+give_up_keeps waits changes tci m =
+    keeps_both m (with_report (report.GaveUp tci) m) _
+    (keeps_reported (report.GaveUp tci) m tt)
+    (loss_keeps waits changes tci (with_report (report.GaveUp tci) m))
+
+-- ---- the replies to submissions and checks
+
+followed_if_keeps : (b : Bool) (one : EntityId) (r : Request) (m : Manager)
+    → KeepsLanes m (followed_if b one r m)
+followed_if_keeps true one r m = record {
+  same = record { low = refl; high = refl };
+  added = [];
+  quiet = tt;
+  reports = sym (append-nil m.reports);
+}
+followed_if_keeps false one r m = keeps_itself m
+
+followed_keeps : (one : EntityId) (r : Request) (code : ℕ) (m : Manager)
+    → KeepsLanes m (followed one r code m)
+unfolding followed
+followed_keeps one r code m = followed_if_keeps (code == SUCCESS.0) one r m
+
+submission_keeps : (c : Command) (r : Option Response) (m : Manager)
+    → KeepsLanes m (followed_by c r m)
+submission_keeps c None m = keeps_itself m
+submission_keeps c (Some r) m = followed_keeps c.entity c.request (code_of r) m
+
+compared_keeps : (b : Bool) (m : Manager) → KeepsLanes m (compared b m)
+compared_keeps true m = keeps_itself m
+compared_keeps false m = leave_keeps m
+
+counters_keep : (given : ℕ) (m : Manager) → KeepsLanes m (counters_compared given m)
+counters_keep given m =
+    keeps_both m (with_report (report.Checked given (expected_counter m)) m) _
+    (keeps_reported (report.Checked given (expected_counter m)) m tt)
+    (compared_keeps (given == expected_counter m)
+    (with_report (report.Checked given (expected_counter m)) m))
+
+-- the reply is handed on first, or not at all
+abbrev pub Answers : Frame → Manager → Manager → Type 0
+Answers f m n = KeepsLanes m n ⊎ KeepsLanes (with_report (report.Took f) m) n
+
+checked_answers : (b : Bool) (r : Response) (f : Frame) (m : Manager)
+    → Answers f m (checked_if b r f m)
+checked_answers true r f m = inl (counters_keep (first_value r) m)
+checked_answers false r f m = inr (leave_keeps (with_report (report.Took f) m))
+
+check_answers : (r : Option Response) (f : Frame) (m : Manager) → Answers f m (checked_by r f m)
+check_answers None f m = inr (leave_keeps (with_report (report.Took f) m))
+check_answers (Some r) f m = checked_answers (code_of r == SUCCESS.0) r f m
+
+-- ---- a reply is taken
+
+-- at most the first of these hands a reply on, and it is this
+abbrev pub AreFirst : Frame → List Report → Type 0
+AreFirst f [] = Unit {0}
+AreFirst f (report.Took reply ∷ rest) = (reply ≡ f) × AreQuiet rest
+AreFirst f (_ ∷ rest) = AreQuiet rest
+
+-- the reply to a probe is not handed on
+abbrev pub AreFor : (probe : Bool) → Frame → List Report → Type 0
+AreFor true f rs = AreQuiet rs
+AreFor false f rs = AreFirst f rs
+
+quiet_first : (f : Frame) (rs : List Report) → AreQuiet rs → AreFirst f rs
+quiet_first f [] h = tt
+quiet_first f (report.Took reply ∷ rest) h = absurd h.0
+quiet_first f (_ ∷ rest) h = h.1
+
+quiet_for : (probe : Bool) (f : Frame) (rs : List Report) → AreQuiet rs → AreFor probe f rs
+quiet_for true f rs h = h
+quiet_for false f rs h = quiet_first f rs h
+
+-- the lanes in which a reply was taken that is no probe's
+abbrev pub taken_lanes : (probe : Bool) → Priority → List Priority
+taken_lanes true l = []
+taken_lanes false l = l ∷ []
+
+-- what a reply means, beside the end of its command
+pub record IsTaking (probe : Bool) (f : Frame) (l : Priority) (m : Manager)
+    (o : Outcome) : Type 0 where
+  pub same : SameLanes m o.manager
+  pub taken : o.taken ≡ taken_lanes probe l
+  pub sends : o.sendings ≡ []
+  pub told : m.reports ≡ [] → AreFor probe f o.manager.reports
+
+abbrev after_taking : Bool → Priority → Manager → Outcome
+after_taking probe l n = record { manager = n; taken = taken_lanes probe l; sendings = [] }
+
+taking_quiet : (probe : Bool) (f : Frame) (l : Priority) (m n : Manager) → KeepsLanes m n
+    → IsTaking probe f l m (after_taking probe l n)
+taking_quiet probe f l m n k = record {
+  same = k.same;
+  taken = refl;
+  sends = refl;
+  told = λ e. subst (AreFor probe f) (sym (k.reports ∙ ap (λ rs. rs ++ k.added) e))
+      (quiet_for probe f k.added k.quiet);
+}
+
+taking_answers : (f : Frame) (l : Priority) (m n : Manager) → Answers f m n
+    → IsTaking false f l m (after_taking false l n)
+taking_answers f l m n (inl k) = taking_quiet false f l m n k
+taking_answers f l m n (inr k) = record {
+  same = record { low = k.same.low; high = k.same.high };
+  taken = refl;
+  sends = refl;
+  told = λ e. subst (AreFirst f)
+      (sym (k.reports ∙ ap (λ rs. (rs ++ report.Took f ∷ []) ++ k.added) e)) (refl, k.quiet);
+}
+
+pub taking_is : (why : Purpose) (l : Priority) (c : Command) (f : Frame) (m : Manager)
+    → IsTaking (is_probe why) f l m (taken_as why l c f m)
+taking_is purpose.Probe l c f m = taking_quiet true f l m _ (record {
+  same = record { low = refl; high = refl };
+  added = report.Proved l ∷ [];
+  quiet = (tt, tt);
+  reports = refl;
+})
+taking_is purpose.Submission l c f m = taking_answers f l m _
+    (inr (submission_keeps c (response_of f) (with_report (report.Took f) m)))
+taking_is purpose.Check l c f m = taking_answers f l m _ (check_answers (response_of f) f m)
+taking_is purpose.Job l c f m = taking_quiet false f l m _ (job_keeps m.job (response_of f) f m)
+
+-- ---- the job goes on
+
+wish_takes : (free : Bool) (w : Option Wish) (m : Manager) → (send_wish free w m).taken ≡ []
+wish_takes free None m = refl
+wish_takes false (Some w) m = refl
+wish_takes true (Some w) m = refl
+
+-- it takes no reply
+job_takes : (m : Manager) → (job_goes_on m).taken ≡ []
+unfolding job_goes_on
+job_takes m = wish_takes (is_free m.low) (wish_in m.job) m
+
+-- nothing but that reply is taken
+pub takes_one : (probe : Bool) (l : Priority) (a : Outcome) → a.taken ≡ taken_lanes probe l
+    → (and_then a job_goes_on).taken ≡ taken_lanes probe l
+takes_one probe l a e =
+    ap (λ ls. ls ++ (job_goes_on a.manager).taken) e
+    ∙ ap (λ ls. taken_lanes probe l ++ ls) (job_takes a.manager)
+    ∙ append-nil (taken_lanes probe l)
+
+wish_reports : (free : Bool) (w : Option Wish) (m : Manager)
+    → (send_wish free w m).manager.reports ≡ m.reports
+wish_reports free None m = refl
+wish_reports false (Some w) m = refl
+wish_reports true (Some w) m = refl
+
+-- and reports nothing
+pub job_reports : (m : Manager) → (job_goes_on m).manager.reports ≡ m.reports
+unfolding job_goes_on
+job_reports m = wish_reports (is_free m.low) (wish_in m.job) m
