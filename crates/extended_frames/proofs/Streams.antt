@@ -7,24 +7,24 @@ use Rattle.extended_spec.specs.declared.AnyFault.TheVariants.{Device, Short, Tra
 use Rattle.extended_spec.specs.Frames.{Any, any_of, any_bytes, any_fault_of, is_extended}
 use Rattle.frame_spec.specs.Baseline.{fault_of}
 use Rattle.extended_spec.specs.Streams.{any_front_by, any_front, GivenFrame, any_taken_from}
-use Rattle.extended_frames.specs.declared.stream.Shown.{Shown}
-use Rattle.extended_frames.specs.declared.stream.Shown.TheVariants as shown
+use Rattle.extended_frames.specs.declared.front.Shown.{Shown}
+use Rattle.extended_frames.specs.declared.front.Shown.TheVariants as shown
 use Rattle.extended_frames.specs.Views.{shown_by, is_shown_faulty}
 
 -- ---- what is shown
 
-sound_by : (fault : Option AnyFault) (bytes : List ℕ) → shown_by (any_front_by fault bytes) ≡ shown.Whole → fault ≡ None
-sound_by None bytes is = refl
-sound_by (Some (Device byte)) bytes is = cc
-sound_by (Some (Short have)) bytes is = cc
-sound_by (Some (Trailer trailer)) bytes is = cc
-sound_by (Some (Check given computed)) bytes is = cc
-sound_by (Some (Length given)) bytes is = cc
-sound_by (Some NoMemory) bytes is = cc
+sound_by : (fault : Option AnyFault) (bytes : List ℕ) (count : ℕ) → shown_by (any_front_by fault bytes) ≡ shown.Whole count → fault ≡ None
+sound_by None bytes count is = refl
+sound_by (Some (Device byte)) bytes count is = cc
+sound_by (Some (Short have)) bytes count is = cc
+sound_by (Some (Trailer trailer)) bytes count is = cc
+sound_by (Some (Check given computed)) bytes count is = cc
+sound_by (Some (Length given)) bytes count is = cc
+sound_by (Some NoMemory) bytes count is = cc
 
-pub whole_is_sound : (bytes : List ℕ) (s : Shown) → s ≡ shown_by (any_front bytes) → s ≡ shown.Whole → any_fault_of bytes ≡ None
+pub whole_is_sound : (bytes : List ℕ) (s : Shown) (count : ℕ) → s ≡ shown_by (any_front bytes) → s ≡ shown.Whole count → any_fault_of bytes ≡ None
 unfolding any_front
-whole_is_sound bytes s value is = sound_by (any_fault_of bytes) bytes (sym value ∙ is)
+whole_is_sound bytes s count value is = sound_by (any_fault_of bytes) bytes count (sym value ∙ is)
 
 open_by : (front : Front Any AnyFault) (r : Reader) → shown_by front ≡ shown.Open → r ≡ after_take front r
 unfolding after_take

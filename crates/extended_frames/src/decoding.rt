@@ -78,6 +78,30 @@ pub(crate) fn any_fault(bytes: &[u8]) -> Option<AnyFault>
     }
 }
 
+// The contents of a whole extended frame.
+#[tactic(auto, unfolding(extended_spec::specs::Frames::long_of))]
+pub(crate) fn contents_at(bytes: &[u8]) -> &[u8]
+    requires whole { HEADER_BYTES + length_at bytes.now + CHECK_BYTES ≤ length bytes.now }
+    requires few { length_at bytes.now ≤ MAX_LONG_CONTENTS }
+    ensures value { result.now ≡ (long_of bytes.now).contents }
+    ensures bound { length result.now ≤ MAX_LONG_CONTENTS }
+{
+    let count = length_at(bytes) as usize;
+    &bytes[HEADER_BYTES..HEADER_BYTES + count]
+}
+
+// The entity of a whole extended frame.
+#[tactic(auto, unfolding(extended_spec::specs::Frames::long_of))]
+pub(crate) fn entity_at(bytes: &[u8]) -> EntityId
+    requires { HEADER_BYTES ≤ length bytes.now }
+    ensures value { result ≡ (long_of bytes.now).entity }
+{
+    EntityId {
+        class: number_at(bytes, 4),
+        instance: number_at(bytes, 6),
+    }
+}
+
 // What the fields of a whole extended frame say.
 #[tactic(auto, unfolding(extended_spec::specs::Frames::long_of))]
 fn long_at(alloc: Global, bytes: &[u8]) -> Result<LongFrame, NoMemory>
@@ -85,13 +109,14 @@ fn long_at(alloc: Global, bytes: &[u8]) -> Result<LongFrame, NoMemory>
     requires few { length_at bytes.now ≤ MAX_LONG_CONTENTS }
     ensures value { IfOk result (λ frame. frame ≡ long_of bytes.now) }
 {
-    let entity = EntityId {
-        class: number_at(bytes, 4),
-        instance: number_at(bytes, 6),
-    };
-    let count = length_at(bytes) as usize;
-    let contents = &bytes[HEADER_BYTES..HEADER_BYTES + count];
-    LongFrame::new(alloc, number_at(bytes, 0), bytes[2], entity, contents)
+    let contents = contents_at(bytes);
+    LongFrame::new(
+        alloc,
+        number_at(bytes, 0),
+        bytes[2],
+        entity_at(bytes),
+        contents,
+    )
 }
 
 // What the fields of a frame say. There is no fault in the bytes.
@@ -122,7 +147,8 @@ pub(crate) fn any_bytes(bytes: &[u8]) -> usize
     }
 }
 
-/// Reads the frame of either set that the bytes begin with. Bytes after the frame are not looked at.
+/// Reads the frame of either set that the bytes begin with. Bytes after the frame are not looked
+/// at.
 ///
 /// # Errors
 ///
@@ -130,8 +156,8 @@ pub(crate) fn any_bytes(bytes: &[u8]) -> usize
 /// byte 4 is neither `0x0A` nor `0x0B`; [`AnyFault::Length`] exactly where 10 bytes of an extended
 /// frame are there and bytes 9 and 10 give more than 1,966; [`AnyFault::Short`] exactly where the
 /// frame isn't whole; [`AnyFault::Trailer`] exactly where bytes 41 to 44 of a baseline frame aren't
-/// `00 00 00 28`; [`AnyFault::Check`] exactly where the check value at the frame's end isn't that of
-/// the bytes before it. [`AnyFault::NoMemory`] comes only for a whole extended frame.
+/// `00 00 00 28`; [`AnyFault::Check`] exactly where the check value at the frame's end isn't that
+/// of the bytes before it. [`AnyFault::NoMemory`] comes only for a whole extended frame.
 #[tactic(auto, unfolding(extended_spec::specs::Frames::any_decoded))]
 pub fn decode_any(alloc: Global, bytes: &[u8]) -> Result<AnyFrame, AnyFault>
     ensures value { MatchResult result (λ frame. any_decoded bytes.now ≡ Ok (any_in frame))

@@ -42,7 +42,12 @@ fn append_bytes(into: &mut Packet, bytes: &[u8])
 fn put_checked(into: &mut Packet, tci: u16, kind: u8, entity: EntityId, contents: &[u8])
     requires { length contents.now ≤ MAX_LONG_CONTENTS }
     ensures checked { into.new
-        ≡ long_checked (record { tci = tci; kind = kind; entity = entity; contents = contents.now }) }
+        ≡ long_checked (record {
+          tci = tci;
+          kind = kind;
+          entity = entity;
+          contents = contents.now;
+        }) }
     ensures len { length into.new ≡ HEADER_BYTES + length contents.now }
 {
     into.clear();

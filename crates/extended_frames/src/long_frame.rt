@@ -57,6 +57,21 @@ impl LongFrame {
         })
     }
 
+    // A frame with these contents, which are not copied.
+    pub(crate) fn from_vec(tci: u16, kind: u8, entity: EntityId, contents: Vec<u8>) -> LongFrame
+        requires { length contents.items ≤ MAX_LONG_CONTENTS }
+        ensures made { result
+            ≡ record { tci = tci; kind = kind; entity = entity; contents = contents.items } }
+    {
+        let contents = Bytes::from_vec(contents);
+        LongFrame {
+            tci,
+            kind,
+            entity,
+            contents,
+        }
+    }
+
     /// The transaction correlation identifier.
     pub fn tci(&self) -> u16
         ensures value { result ≡ self.now.tci }

@@ -4,17 +4,19 @@ ghost use Rattle.std.specs.Prelude.{◌≡◌, ◌↔◌, ◌+◌, ◌≤◌, �
 ghost use Rattle.stream_spec.specs.Streams.{bytes_taken, with_bytes, after_take, first_reader};
 ghost use Rattle.extended_spec.specs.Frames.{is_extended, any_fault_of};
 ghost use Rattle.extended_spec.specs.Streams.{any_front, any_taken_from, any_held_bytes_fault, any_finish_from};
-ghost use Rattle.extended_frames.specs.Views.{view_of, shown_by, is_shown_faulty};
+ghost use Rattle.extended_frames.specs.Views.{view_of};
 
-use crate::decoding::{any_at, any_bytes, any_fault};
+use crate::buffer::make_room;
+use crate::decoding::{any_at, any_bytes};
+use crate::front::{Shown, front_shown, is_faulty};
 use crate::long_frame::AnyFrame;
 use extended_spec::{AnyFault, AnyStreamFault};
 use omci_core::{MAX_PACKET_BYTES, NoMemory, put_at};
 use std::alloc::Global;
 use std::marker::Model;
 
-/// The buffer is twice as long as what is held at most. So bytes are moved to its front only after as
-/// many were given away as may be held: in the reader no byte is copied more than twice.
+/// The buffer is twice as long as what is held at most. So bytes are moved to its front only after
+/// as many were given away as may be held: in the reader no byte is copied more than twice.
 const BUFFER_BYTES: usize = 2 * MAX_PACKET_BYTES;
 
 /// What a reader of a stream of both sets answers when it is asked for a frame.
@@ -58,36 +60,6 @@ impl Model for AnyFrames {
         × (s.start + s.len ≤ length s.bytes.items) × (length s.bytes.items ≡ BUFFER_BYTES) };
 }
 
-/// What bytes show at their front.
-#[derive(Clone, Copy, Debug, PartialEq, Eq)]
-enum Shown {
-    /// A whole frame.
-    Whole,
-    /// No whole frame yet, and no fault.
-    Open,
-    /// A fault.
-    Faulty { fault: AnyFault },
-}
-
-// What bytes show at their front.
-#[tactic(auto, unfolding(extended_spec::specs::Streams::any_front))]
-fn front_shown(held: &[u8]) -> Shown
-    ensures value { result ≡ shown_by (any_front held.now) }
-{
-    match any_fault(held) {
-        None => Shown::Whole,
-        Some(AnyFault::Short { .. }) => Shown::Open,
-        Some(fault) => Shown::Faulty { fault },
-    }
-}
-
-// Whether a fault is shown.
-fn is_faulty(shown: Shown) -> bool
-    ensures value { result ≡ is_shown_faulty shown }
-{
-    matches!(shown, Shown::Faulty { .. })
-}
-
 // Whether so many bytes are held that show no fault.
 fn held_bytes_fault(len: usize, at: u64) -> Result<(), AnyStreamFault>
     ensures value { result ≡ any_held_bytes_fault len at }
@@ -97,33 +69,6 @@ fn held_bytes_fault(len: usize, at: u64) -> Result<(), AnyStreamFault>
     }
     let fault = AnyFault::Short { have: len };
     Err(AnyStreamFault { at, fault })
-}
-
-// Copies some bytes from a place on to the front.
-fn move_to_front(bytes: &mut [u8], start: usize, len: usize)
-    requires apart { len ≤ start }
-    requires within { start + len ≤ length bytes.old }
-    ensures front { take len bytes.new ≡ take len (drop start bytes.old) }
-    ensures kept { length bytes.new ≡ length bytes.old }
-{
-    let (front, back) = bytes.split_at_mut(start);
-    front[..len].copy_from_slice(&back[..len]);
-}
-
-// Makes room for so many bytes after those that are held, and answers where these begin now.
-fn make_room(bytes: &mut [u8], start: usize, len: usize, count: usize) -> usize
-    requires within { start + len ≤ length bytes.old }
-    requires few { len + count ≤ MAX_PACKET_BYTES }
-    requires buffer { length bytes.old ≡ BUFFER_BYTES }
-    ensures held { take len (drop result bytes.new) ≡ take len (drop start bytes.old) }
-    ensures room { result + len + count ≤ length bytes.new }
-    ensures kept { length bytes.new ≡ length bytes.old }
-{
-    if start + len + count <= BUFFER_BYTES {
-        return start;
-    }
-    move_to_front(bytes, start, len);
-    0
 }
 
 // Adds bytes after those that are held, and answers where these begin now.
@@ -171,8 +116,8 @@ impl AnyFrames {
         self.len += bytes.len();
     }
 
-    /// Takes as many bytes of the front of the piece as there is room for, and answers how many; none
-    /// where the bytes held show a fault. There is room for 1,980 bytes.
+    /// Takes as many bytes of the front of the piece as there is room for, and answers how many;
+    /// none where the bytes held show a fault. There is room for 1,980 bytes.
     pub fn feed(&mut self, piece: &[u8]) -> usize
         ensures count { result
             ≡ bytes_taken (any_front self.old.held) MAX_PACKET_BYTES self.old piece.now }
@@ -188,10 +133,10 @@ impl AnyFrames {
         count
     }
 
-    /// The frame with which the bytes held begin, which are held no longer; `More` exactly where they
-    /// begin with no whole frame and show no fault; and else the fault, with the place of the first
-    /// byte held. A fault stands: each further call answers it again. `NoMemory` comes only for an
-    /// extended frame, which is then still held.
+    /// The frame with which the bytes held begin, which are held no longer; `More` exactly where
+    /// they begin with no whole frame and show no fault; and else the fault, with the place of the
+    /// first byte held. A fault stands: each further call answers it again. `NoMemory` comes only
+    /// for an extended frame, which is then still held.
     pub fn take(&mut self) -> Result<TakenAny, NoMemory>
         ensures value { IfOk result (λ taken. view_of taken
             ≡ any_taken_from (any_front self.old.held) self.old.at) }
@@ -200,7 +145,7 @@ impl AnyFrames {
         ensures memory { OnErr result (is_extended self.old.held ≡ true) }
     {
         match front_shown(self.held()) {
-            Shown::Whole => self.take_whole(),
+            Shown::Whole { .. } => self.take_whole(),
             Shown::Open => Ok(TakenAny::More),
             Shown::Faulty { fault } => Ok(TakenAny::Fault { at: self.at, fault }),
         }
@@ -227,14 +172,14 @@ impl AnyFrames {
     ///
     /// # Errors
     ///
-    /// The fault that the bytes held show, or [`AnyFault::Short`] with how many are held, also where
-    /// they begin with a whole frame that was not taken.
+    /// The fault that the bytes held show, or [`AnyFault::Short`] with how many are held, also
+    /// where they begin with a whole frame that was not taken.
     pub fn finish(&self) -> Result<(), AnyStreamFault>
         ensures value { result ≡ any_finish_from (any_front self.now.held) self.now }
         ensures ok { IsOk result ↔ (self.now.held ≡ []) }
     {
         match front_shown(self.held()) {
-            Shown::Whole | Shown::Open => held_bytes_fault(self.len, self.at),
+            Shown::Whole { .. } | Shown::Open => held_bytes_fault(self.len, self.at),
             Shown::Faulty { fault } => Err(AnyStreamFault { at: self.at, fault }),
         }
     }

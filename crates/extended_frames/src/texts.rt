@@ -26,7 +26,7 @@ fn push_hex_or_dash(out: &mut Vec<u8>, bytes: &[u8]) -> Result<(), NoMemory>
 
 // Appends the text of an extended frame with these fields.
 #[tactic(auto, unfolding(extended_spec::specs::Text::long_text))]
-fn push_fields(
+pub(crate) fn push_fields(
     out: &mut Vec<u8>,
     tci: u16,
     kind: u8,
@@ -34,7 +34,12 @@ fn push_fields(
     contents: &[u8],
 ) -> Result<(), NoMemory>
     ensures text { OnOk result (out.new.items ≡ out.old.items
-        ++ long_text (record { tci = tci; kind = kind; entity = entity; contents = contents.now })) }
+        ++ long_text (record {
+          tci = tci;
+          kind = kind;
+          entity = entity;
+          contents = contents.now;
+        })) }
     ensures front { IsFront out.old.items out.new.items }
 {
     push_tci(out, tci)?;
@@ -58,8 +63,8 @@ fn push_long_text(out: &mut Vec<u8>, frame: &LongFrame) -> Result<(), NoMemory>
     push_fields(out, frame.tci(), frame.kind(), frame.entity(), contents)
 }
 
-/// Appends the text of a frame of either set: as of a baseline frame, and of an extended one with the
-/// device `0b` and all bytes of its contents in hex, or `-` where there are none.
+/// Appends the text of a frame of either set: as of a baseline frame, and of an extended one with
+/// the device `0b` and all bytes of its contents in hex, or `-` where there are none.
 ///
 /// `NoMemory` where `out` can't grow; it then still begins with what it held. No other memory is
 /// taken.

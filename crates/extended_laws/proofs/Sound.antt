@@ -66,7 +66,7 @@ no_memory_in false false true d have given have_too check computed is = cc
 no_memory_in false false false true have given have_too check computed is = cc
 no_memory_in false false false false have given have_too check computed is = cc
 
-long_no_memory : (bytes : List ℕ) → long_fault_of bytes ≡ Some NoMemory → ⊥
+pub long_no_memory : (bytes : List ℕ) → long_fault_of bytes ≡ Some NoMemory → ⊥
 unfolding long_fault_of
 long_no_memory bytes is =
     no_memory_in (nat_lt (length bytes) 10) (nat_lt 1966 (length_at bytes)) (nat_lt (length bytes) (10 + length_at bytes + 4)) (not (nat_eq (long_given bytes) (long_computed bytes)))

@@ -1,15 +1,19 @@
 //! An image that is put into a slot piece by piece.
-ghost use Rattle.std.specs.Prelude.{◌≡◌, ◌⊎◌, ℕ, ◌<◌, ◌≤◌, ◌+◌, ◌++◌, List, [], ◌∷◌, true, false, length, Option, Some, None, Result, OnOk, IfOk, IfErr, IsSome};
+ghost use Rattle.std.specs.Prelude.{◌≡◌, ◌⊎◌, ℕ, ◌<◌, ◌≤◌, ◌+◌, ◌++◌, List, [], ◌∷◌, true, false};
+ghost use Rattle.std.specs.Prelude.{length, Option, Some, None, Result, OnOk, IfOk, IfErr, IsSome};
 ghost use Rattle.std.specs.Option.{option_map};
 ghost use Rattle.omci_core.specs.Causes.{Rose};
 ghost use Rattle.slot_spec.specs.Crash.{Moments, TornFrom, HasLength};
-ghost use Rattle.slot_spec.specs.Slots.{SlotPair, image_at as image_of, with_image, mid, Keep, Seal};
+ghost use Rattle.slot_spec.specs.Slots.{SlotPair, image_at as image_of, with_image, mid, Keep};
+ghost use Rattle.slot_spec.specs.Slots.{Seal};
 ghost use Rattle.slot_spec.specs.Layout.{StandsAt, StandsAmong, GatesHold, gate_place, open_gate};
 ghost use Rattle.slot_spec.specs.Rig.{Write, Sync, Makes, Rigged, IsTrap, RigHolds};
 ghost use Rattle.slot_spec.specs.Outcome.{Leaves};
 ghost use Rattle.slot_spec.specs.Header.{view_of, view_at, with_slot_header};
 ghost use Rattle.slot_spec.specs.Owner.{Settled, Filling, Stored};
-ghost use Rattle.image_slots.specs.Answers.{Loaded, put_disk, put_calls, put_faults, PutRefused, seal_disk, seal_change, seal_calls, seal_faults, SealRefused, IsSealFault};
+ghost use Rattle.image_slots.specs.Answers.{Loaded, put_disk, put_calls, put_faults, PutRefused};
+ghost use Rattle.image_slots.specs.Answers.{seal_disk, seal_change, seal_calls, seal_faults};
+ghost use Rattle.image_slots.specs.Answers.{SealRefused, IsSealFault};
 
 use crate::fields::{entry_bytes, version_after};
 use crate::slots::{Broken, Slots};
@@ -40,7 +44,15 @@ impl<D: Disk> Model for Download<D> {
 
     ghost Value = { Loading D };
 
-    ghost view = { λ s. record { disk = s.disk; header = s.header; target = s.target; size = s.size; have = s.have; crc = s.crc; version = s.version } };
+    ghost view = { λ s. record {
+      disk = s.disk;
+      header = s.header;
+      target = s.target;
+      size = s.size;
+      have = s.have;
+      crc = s.crc;
+      version = s.version;
+    } };
 
     ghost invariant = { λ s. record { target : s.target < 2; committed : s.header.committed < 2 } };
 }

@@ -27,7 +27,8 @@ fn put(into: &mut [u8], place: usize, bytes: &[u8])
 
 // The version of an image, once this piece follows the bytes that were put.
 pub fn version_after(version: [u8; VERSION_BYTES], have: u32, piece: &[u8]) -> [u8; VERSION_BYTES]
-    ensures version { (put : List ℕ) → have ≡ length put → version ≡ version_of put → result ≡ version_of (put ++ piece.now) }
+    ensures version { (put : List ℕ) → have ≡ length put → version ≡ version_of put
+        → result ≡ version_of (put ++ piece.now) }
 {
     let mut version = version;
     let mut place = have as usize;

@@ -1,11 +1,15 @@
 //! Laying the slots out on a disk.
-ghost use Rattle.std.specs.Prelude.{◌≡◌, ℕ, ◌<◌, ◌≤◌, ◌+◌, ◌*◌, ◌-◌, List, [], ◌∷◌, ◌++◌, length, Option, Some, None, IsSome, OnOk, IfOk, IfErr, true, false};
+ghost use Rattle.std.specs.Prelude.{◌≡◌, ℕ, ◌<◌, ◌≤◌, ◌+◌, ◌*◌, ◌-◌, List, [], ◌∷◌, ◌++◌, length};
+ghost use Rattle.std.specs.Prelude.{Option, Some, None, IsSome, OnOk, IfOk, IfErr, true, false};
 ghost use Rattle.std.specs.Result.{is_err};
 ghost use Rattle.omci_core.specs.Causes.{HasCause, Rose};
 ghost use Rattle.slot_spec.specs.Crash.{Written, HasLength};
 ghost use Rattle.slot_spec.specs.Rig.{Rigged, Makes};
 ghost use Rattle.slot_spec.specs.Owner.{Settled};
-ghost use Rattle.image_slots.specs.Formats.{FormattedBody, FormattedDisk, FormatRefused, FormatLeaves, body_calls, layout_calls, format_calls, format_disk, format_faults, formatted_slots, formatted_length};
+ghost use Rattle.image_slots.specs.Formats.{FormattedBody, FormattedDisk, FormatRefused};
+ghost use Rattle.image_slots.specs.Formats.{FormatLeaves, body_calls, layout_calls, format_calls};
+ghost use Rattle.image_slots.specs.Formats.{format_disk, format_faults, formatted_slots};
+ghost use Rattle.image_slots.specs.Formats.{formatted_length};
 
 use crate::fields::{entry_bytes, version_after};
 use crate::slots::Slots;
@@ -35,12 +39,21 @@ impl<D: Disk> Slots<D> {
     pub fn format(disk: D, room: u32, image: &[u8]) -> Result<Slots<D>, FormatRefusal<D>>
         requires some { 1 ≤ room }
         requires small { room ≤ 16777216 }
-        ensures settled { IsSome (D.seen disk) → IfOk result (λ slots. Settled D.seen D.may_leave slots.disk slots.header (formatted_slots image.now)) }
-        ensures length { (bytes : List ℕ) → D.seen disk ≡ Some bytes → OnOk result (HasLength D.may_leave (formatted_length room (length bytes)) (format_disk result)) }
-        ensures rig { Makes (format_calls room image.now) (D.rig disk) (D.rig (format_disk result)) (format_faults result) }
-        ensures outcome { (r : Rigged) → D.rig disk ≡ Some r → OnOk result ((after : Rigged) × (D.rig (format_disk result) ≡ Some after) × FormatLeaves room image.now r after) }
-        ensures cause { format_faults result ≡ true → Rose (D.faults disk) (D.faults (format_disk result)) }
-        ensures kept { format_faults result ≡ false → D.faults (format_disk result) ≡ D.faults disk }
+        ensures settled { IsSome (D.seen disk)
+            → IfOk result (λ slots. Settled D.seen D.may_leave slots.disk slots.header
+            (formatted_slots image.now)) }
+        ensures length { (bytes : List ℕ) → D.seen disk ≡ Some bytes
+            → OnOk result (HasLength D.may_leave (formatted_length room (length bytes))
+            (format_disk result)) }
+        ensures rig { Makes (format_calls room image.now) (D.rig disk) (D.rig (format_disk result))
+            (format_faults result) }
+        ensures outcome { (r : Rigged) → D.rig disk ≡ Some r
+            → OnOk result ((after : Rigged) × (D.rig (format_disk result) ≡ Some after)
+            × FormatLeaves room image.now r after) }
+        ensures cause { format_faults result ≡ true
+            → Rose (D.faults disk) (D.faults (format_disk result)) }
+        ensures kept { format_faults result ≡ false
+            → D.faults (format_disk result) ≡ D.faults disk }
         ensures refused { IfErr result (FormatRefused disk room (length image.now)) }
         ensures fits { OnOk result ((1 ≤ length image.now) × (length image.now ≤ room)) }
         ensures room { IfOk result (λ slots. slots.header.room ≡ room) }
@@ -90,8 +103,10 @@ fn lay_out<D: Disk>(
     requires some { 1 ≤ room }
     requires content { 1 ≤ length image.now }
     requires fits { length image.now ≤ room }
-    ensures formatted { (was : List ℕ) → D.seen disk.old ≡ Some was → OnOk result (FormattedDisk D.seen D.may_leave room entry.now image.now was disk.new) }
-    ensures rig { Makes (layout_calls room entry.now image.now) (D.rig disk.old) (D.rig disk.new) (is_err result) }
+    ensures formatted { (was : List ℕ) → D.seen disk.old ≡ Some was
+        → OnOk result (FormattedDisk D.seen D.may_leave room entry.now image.now was disk.new) }
+    ensures rig { Makes (layout_calls room entry.now image.now) (D.rig disk.old) (D.rig disk.new)
+        (is_err result) }
     ensures cause { HasCause (D.faults disk.old) (D.faults disk.new) result }
 {
     write_through(disk, 0, &[0; 8])?;
@@ -113,8 +128,11 @@ fn write_body<D: Disk>(
     requires some { 1 ≤ room }
     requires content { 1 ≤ length image.now }
     requires fits { length image.now ≤ room }
-    ensures body { (was : List ℕ) → D.seen disk.old ≡ Some was → OnOk result ((now : List ℕ) × (D.seen disk.new ≡ Some now) × FormattedBody room entry.now image.now was now) }
-    ensures rig { Makes (body_calls room entry.now image.now) (D.rig disk.old) (D.rig disk.new) (is_err result) }
+    ensures body { (was : List ℕ) → D.seen disk.old ≡ Some was
+        → OnOk result ((now : List ℕ) × (D.seen disk.new ≡ Some now)
+        × FormattedBody room entry.now image.now was now) }
+    ensures rig { Makes (body_calls room entry.now image.now) (D.rig disk.old) (D.rig disk.new)
+        (is_err result) }
     ensures cause { HasCause (D.faults disk.old) (D.faults disk.new) result }
 {
     disk.write_at(ROOM_PLACE, &room.to_be_bytes())?;

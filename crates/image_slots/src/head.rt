@@ -1,7 +1,8 @@
 //! What the first bytes of a disk say of its slots.
 ghost use Rattle.std.specs.Prelude.{◌≡◌, ℕ, ◌<◌, ◌≤◌, ◌+◌, length};
 ghost use Rattle.slot_spec.specs.Layout.{gate_place, entry_place};
-ghost use Rattle.slot_spec.specs.Header.{number_at, is_valid, entry_view, slot_header_in, disk_header_in, has_unit};
+ghost use Rattle.slot_spec.specs.Header.{number_at, is_valid, entry_view, slot_header_in};
+ghost use Rattle.slot_spec.specs.Header.{disk_header_in, has_unit};
 
 use omci_types::SlotView;
 use slot_spec::{

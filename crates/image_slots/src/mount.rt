@@ -1,5 +1,7 @@
 //! Taking the slots that stand on a disk.
-ghost use Rattle.std.specs.Prelude.{◌≡◌, ℕ, ◌<◌, ◌≤◌, ◌+◌, ◌*◌, List, [], ◌∷◌, length, take, replicate, Option, Some, None, Result, Err, OnOk, IfOk, IfErr, IsSome, MatchResult, true, false};
+ghost use Rattle.std.specs.Prelude.{◌≡◌, ℕ, ◌<◌, ◌≤◌, ◌+◌, ◌*◌, List, [], ◌∷◌, length, take};
+ghost use Rattle.std.specs.Prelude.{replicate, Option, Some, None, Result, Err, OnOk, IfOk, IfErr};
+ghost use Rattle.std.specs.Prelude.{IsSome, MatchResult, true, false};
 ghost use Rattle.std.specs.Result.{is_err};
 ghost use Rattle.omci_core.specs.Causes.{HasCause, Rose};
 ghost use Rattle.slot_spec.specs.Crash.{Moments, HasLength};
@@ -8,7 +10,8 @@ ghost use Rattle.slot_spec.specs.Layout.{StandsAt};
 ghost use Rattle.slot_spec.specs.Rig.{Rigged, Read, Sync, Makes};
 ghost use Rattle.slot_spec.specs.Header.{disk_header_in};
 ghost use Rattle.slot_spec.specs.Owner.{Settled};
-ghost use Rattle.image_slots.specs.Mounts.{mount_disk, mount_faults, mount_calls, MountFinds, HeadRefused, MountRefused, IsMountFault, MountLeaves};
+ghost use Rattle.image_slots.specs.Mounts.{mount_disk, mount_faults, mount_calls, MountFinds};
+ghost use Rattle.image_slots.specs.Mounts.{HeadRefused, MountRefused, IsMountFault, MountLeaves};
 ghost use Rattle.image_slots.specs.declared.mount.MountRefusal.TheVariants.{NoUnit};
 
 use crate::head::{disk_header, is_unit, number};
@@ -51,17 +54,27 @@ impl<D: Disk> Slots<D> {
     /// The check value and the version of an entry are taken as they stand; the image isn't read.
     #[tactic(auto, unfolding(slot_spec::specs::Rig::after_calls, slot_spec::specs::Rig::calls_fail))]
     pub fn mount(disk: D, size: u64) -> Result<Slots<D>, MountRefusal<D>>
-        ensures settled { (room : ℕ) (s : SlotPair) (bytes : List ℕ) → D.seen disk ≡ Some bytes → size ≡ length bytes → StandsAt room bytes s → MatchResult result (λ slots. Settled D.seen D.may_leave slots.disk slots.header s) IsMountFault }
-        ensures moments { Moments D.clock D.left_since D.may_leave disk (mount_disk result) (D.may_leave disk) }
+        ensures settled { (room : ℕ) (s : SlotPair) (bytes : List ℕ) → D.seen disk ≡ Some bytes
+            → size ≡ length bytes → StandsAt room bytes s
+            → MatchResult result (λ slots. Settled D.seen D.may_leave slots.disk slots.header s)
+            IsMountFault }
+        ensures moments { Moments D.clock D.left_since D.may_leave disk (mount_disk result)
+            (D.may_leave disk) }
         ensures seen { D.seen (mount_disk result) ≡ D.seen disk }
-        ensures length { (bytes : List ℕ) → D.seen disk ≡ Some bytes → OnOk result (HasLength D.may_leave (length bytes) (mount_disk result)) }
-        ensures rig { Makes (mount_calls size) (D.rig disk) (D.rig (mount_disk result)) (mount_faults result) }
-        ensures outcome { (r : Rigged) → D.rig disk ≡ Some r → (after : Rigged) × (D.rig (mount_disk result) ≡ Some after) × MountLeaves size r after }
-        ensures cause { mount_faults result ≡ true → Rose (D.faults disk) (D.faults (mount_disk result)) }
+        ensures length { (bytes : List ℕ) → D.seen disk ≡ Some bytes
+            → OnOk result (HasLength D.may_leave (length bytes) (mount_disk result)) }
+        ensures rig { Makes (mount_calls size) (D.rig disk) (D.rig (mount_disk result))
+            (mount_faults result) }
+        ensures outcome { (r : Rigged) → D.rig disk ≡ Some r → (after : Rigged)
+            × (D.rig (mount_disk result) ≡ Some after) × MountLeaves size r after }
+        ensures cause { mount_faults result ≡ true
+            → Rose (D.faults disk) (D.faults (mount_disk result)) }
         ensures kept { mount_faults result ≡ false → D.faults (mount_disk result) ≡ D.faults disk }
         ensures short { size < 4096 → result ≡ Err (NoUnit disk size (replicate 8 0) 0) }
-        ensures found { (bytes : List ℕ) → D.seen disk ≡ Some bytes → IfOk result (MountFinds size bytes) }
-        ensures refused { (bytes : List ℕ) → D.seen disk ≡ Some bytes → 4096 ≤ size → IfErr result (MountRefused size bytes) }
+        ensures found { (bytes : List ℕ) → D.seen disk ≡ Some bytes
+            → IfOk result (MountFinds size bytes) }
+        ensures refused { (bytes : List ℕ) → D.seen disk ≡ Some bytes → 4096 ≤ size
+            → IfErr result (MountRefused size bytes) }
     {
         if size < HEADER_BYTES {
             return Err(MountRefusal::NoUnit {
@@ -84,11 +97,15 @@ impl<D: Disk> Slots<D> {
 #[tactic(auto, unfolding(slot_spec::specs::Rig::after_calls, slot_spec::specs::Rig::calls_fail))]
 fn settle<D: Disk>(disk: &mut D, head: &mut [u8]) -> Result<(), Failed>
     requires whole { length head.old ≡ 4096 }
-    ensures front { (bytes : List ℕ) → D.seen disk.old ≡ Some bytes → OnOk result (head.new ≡ take 4096 bytes) }
-    ensures only { (bytes : List ℕ) → D.seen disk.old ≡ Some bytes → OnOk result ((image : List ℕ) → D.may_leave disk.new image → image ≡ bytes) }
+    ensures front { (bytes : List ℕ) → D.seen disk.old ≡ Some bytes
+        → OnOk result (head.new ≡ take 4096 bytes) }
+    ensures only { (bytes : List ℕ) → D.seen disk.old ≡ Some bytes
+        → OnOk result ((image : List ℕ) → D.may_leave disk.new image → image ≡ bytes) }
     ensures seen { D.seen disk.new ≡ D.seen disk.old }
-    ensures moments { Moments D.clock D.left_since D.may_leave disk.old disk.new (D.may_leave disk.old) }
-    ensures rig { Makes (Sync ∷ Read 0 4096 ∷ []) (D.rig disk.old) (D.rig disk.new) (is_err result) }
+    ensures moments { Moments D.clock D.left_since D.may_leave disk.old disk.new
+        (D.may_leave disk.old) }
+    ensures rig { Makes (Sync ∷ Read 0 4096 ∷ []) (D.rig disk.old) (D.rig disk.new)
+        (is_err result) }
     ensures cause { HasCause (D.faults disk.old) (D.faults disk.new) result }
 {
     disk.sync()?;

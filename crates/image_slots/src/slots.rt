@@ -1,5 +1,6 @@
 //! A disk of two image slots, and a disk of which a call failed.
-ghost use Rattle.std.specs.Prelude.{◌≡◌, ◌⊎◌, ℕ, ◌<◌, ◌≤◌, List, [], Option, Some, None, Result, OnOk, IfOk, IfErr, IsSome, true, false};
+ghost use Rattle.std.specs.Prelude.{◌≡◌, ◌⊎◌, ℕ, ◌<◌, ◌≤◌, List, [], Option, Some, None, Result};
+ghost use Rattle.std.specs.Prelude.{OnOk, IfOk, IfErr, IsSome, true, false};
 ghost use Rattle.std.specs.Option.{option_map};
 ghost use Rattle.omci_core.specs.Causes.{Rose};
 ghost use Rattle.slot_spec.specs.Crash.{Moments, HasLength};
@@ -7,7 +8,8 @@ ghost use Rattle.slot_spec.specs.Slots.{SlotPair, image_at, with_committed, with
 ghost use Rattle.slot_spec.specs.Layout.{StandsAt, StandsAmong, GatesHold};
 ghost use Rattle.slot_spec.specs.Rig.{Rigged, Makes, IsTrap, RigHolds};
 ghost use Rattle.slot_spec.specs.Outcome.{Leaves};
-ghost use Rattle.slot_spec.specs.Header.{view_of, view_at, slot_header as slot_header_of, with_slot_header, shut_header};
+ghost use Rattle.slot_spec.specs.Header.{view_of, view_at, slot_header as slot_header_of};
+ghost use Rattle.slot_spec.specs.Header.{with_slot_header, shut_header};
 ghost use Rattle.slot_spec.specs.Owner.{Settled, Filling};
 ghost use Rattle.image_slots.specs.Answers.{IsEmpty, Loaded};
 
@@ -81,7 +83,10 @@ pub enum BeginRefusal<D: Disk> {
 }
 
 impl<D: Disk> Slots<D> {
-    ghost use Rattle.image_slots.specs.Answers.{commit_disk, commit_change, commit_calls, commit_faults, CommitRefused, begin_disk, begin_change, begin_calls, begin_faults, BeginRefused};
+    ghost use Rattle.image_slots.specs.Answers.{commit_disk, commit_change, commit_calls};
+    ghost use Rattle.image_slots.specs.Answers.{commit_faults, CommitRefused, begin_disk};
+    ghost use Rattle.image_slots.specs.Answers.{begin_change, begin_calls, begin_faults};
+    ghost use Rattle.image_slots.specs.Answers.{BeginRefused};
 
     /// How many bytes each slot has room for.
     pub fn room(&self) -> u32

@@ -1,5 +1,6 @@
 //! The private steps of the calls: one write and one sync each.
-ghost use Rattle.std.specs.Prelude.{◌≡◌, ℕ, ◌+◌, ◌<◌, ◌≤◌, List, [], ◌∷◌, length, Option, Some, None, IsSome, OnOk, true, false};
+ghost use Rattle.std.specs.Prelude.{◌≡◌, ℕ, ◌+◌, ◌<◌, ◌≤◌, List, [], ◌∷◌, length, Option, Some};
+ghost use Rattle.std.specs.Prelude.{None, IsSome, OnOk, true, false};
 ghost use Rattle.std.specs.Result.{is_err};
 ghost use Rattle.omci_core.specs.Causes.{HasCause};
 ghost use Rattle.slot_spec.specs.Crash.{TornFrom, Moments};
@@ -18,10 +19,13 @@ use slot_spec::{
 // Writes bytes that are on the disk once the call is Ok.
 #[tactic(auto, unfolding(slot_spec::specs::Rig::after_calls, slot_spec::specs::Rig::calls_fail))]
 pub fn write_through<D: Disk>(disk: &mut D, at: u64, bytes: &[u8]) -> Result<(), Failed>
-    ensures written { (was : List ℕ) → D.seen disk.old ≡ Some was → OnOk result (Stored D.seen D.may_leave at bytes.now was disk.new) }
+    ensures written { (was : List ℕ) → D.seen disk.old ≡ Some was
+        → OnOk result (Stored D.seen D.may_leave at bytes.now was disk.new) }
     ensures told { IsSome (D.seen disk.old) → IsSome (D.seen disk.new) }
-    ensures moments { Moments D.clock D.left_since D.may_leave disk.old disk.new (TornFrom at (length bytes.now) (D.may_leave disk.old)) }
-    ensures rig { Makes (Write at bytes.now ∷ Sync ∷ []) (D.rig disk.old) (D.rig disk.new) (is_err result) }
+    ensures moments { Moments D.clock D.left_since D.may_leave disk.old disk.new
+        (TornFrom at (length bytes.now) (D.may_leave disk.old)) }
+    ensures rig { Makes (Write at bytes.now ∷ Sync ∷ []) (D.rig disk.old) (D.rig disk.new)
+        (is_err result) }
     ensures cause { HasCause (D.faults disk.old) (D.faults disk.new) result }
 {
     disk.write_at(at, bytes)?;
@@ -31,10 +35,13 @@ pub fn write_through<D: Disk>(disk: &mut D, at: u64, bytes: &[u8]) -> Result<(),
 
 // Names the committed slot.
 pub fn store_commit<D: Disk>(disk: &mut D, slot: u8) -> Result<(), Failed>
-    ensures written { (was : List ℕ) → D.seen disk.old ≡ Some was → OnOk result (Stored D.seen D.may_leave commit_place (slot ∷ []) was disk.new) }
+    ensures written { (was : List ℕ) → D.seen disk.old ≡ Some was
+        → OnOk result (Stored D.seen D.may_leave commit_place (slot ∷ []) was disk.new) }
     ensures told { IsSome (D.seen disk.old) → IsSome (D.seen disk.new) }
-    ensures moments { Moments D.clock D.left_since D.may_leave disk.old disk.new (TornFrom commit_place 1 (D.may_leave disk.old)) }
-    ensures rig { Makes (Write commit_place (slot ∷ []) ∷ Sync ∷ []) (D.rig disk.old) (D.rig disk.new) (is_err result) }
+    ensures moments { Moments D.clock D.left_since D.may_leave disk.old disk.new
+        (TornFrom commit_place 1 (D.may_leave disk.old)) }
+    ensures rig { Makes (Write commit_place (slot ∷ []) ∷ Sync ∷ []) (D.rig disk.old)
+        (D.rig disk.new) (is_err result) }
     ensures cause { HasCause (D.faults disk.old) (D.faults disk.new) result }
 {
     write_through(disk, COMMIT_PLACE, &[slot])
@@ -43,10 +50,13 @@ pub fn store_commit<D: Disk>(disk: &mut D, slot: u8) -> Result<(), Failed>
 // Gives a slot's gate its byte.
 pub fn store_gate<D: Disk>(disk: &mut D, slot: u8, byte: u8) -> Result<(), Failed>
     requires slot { slot < 2 }
-    ensures written { (was : List ℕ) → D.seen disk.old ≡ Some was → OnOk result (Stored D.seen D.may_leave (gate_place slot) (byte ∷ []) was disk.new) }
+    ensures written { (was : List ℕ) → D.seen disk.old ≡ Some was
+        → OnOk result (Stored D.seen D.may_leave (gate_place slot) (byte ∷ []) was disk.new) }
     ensures told { IsSome (D.seen disk.old) → IsSome (D.seen disk.new) }
-    ensures moments { Moments D.clock D.left_since D.may_leave disk.old disk.new (TornFrom (gate_place slot) 1 (D.may_leave disk.old)) }
-    ensures rig { Makes (Write (gate_place slot) (byte ∷ []) ∷ Sync ∷ []) (D.rig disk.old) (D.rig disk.new) (is_err result) }
+    ensures moments { Moments D.clock D.left_since D.may_leave disk.old disk.new
+        (TornFrom (gate_place slot) 1 (D.may_leave disk.old)) }
+    ensures rig { Makes (Write (gate_place slot) (byte ∷ []) ∷ Sync ∷ []) (D.rig disk.old)
+        (D.rig disk.new) (is_err result) }
     ensures cause { HasCause (D.faults disk.old) (D.faults disk.new) result }
 {
     write_through(disk, gate_at(slot), &[byte])
@@ -55,10 +65,13 @@ pub fn store_gate<D: Disk>(disk: &mut D, slot: u8, byte: u8) -> Result<(), Faile
 // Gives a slot its entry.
 pub fn store_entry<D: Disk>(disk: &mut D, slot: u8, entry: &[u8; ENTRY_BYTES]) -> Result<(), Failed>
     requires slot { slot < 2 }
-    ensures written { (was : List ℕ) → D.seen disk.old ≡ Some was → OnOk result (Stored D.seen D.may_leave (entry_place slot) entry.now was disk.new) }
+    ensures written { (was : List ℕ) → D.seen disk.old ≡ Some was
+        → OnOk result (Stored D.seen D.may_leave (entry_place slot) entry.now was disk.new) }
     ensures told { IsSome (D.seen disk.old) → IsSome (D.seen disk.new) }
-    ensures moments { Moments D.clock D.left_since D.may_leave disk.old disk.new (TornFrom (entry_place slot) 22 (D.may_leave disk.old)) }
-    ensures rig { Makes (Write (entry_place slot) entry.now ∷ Sync ∷ []) (D.rig disk.old) (D.rig disk.new) (is_err result) }
+    ensures moments { Moments D.clock D.left_since D.may_leave disk.old disk.new
+        (TornFrom (entry_place slot) 22 (D.may_leave disk.old)) }
+    ensures rig { Makes (Write (entry_place slot) entry.now ∷ Sync ∷ []) (D.rig disk.old)
+        (D.rig disk.new) (is_err result) }
     ensures cause { HasCause (D.faults disk.old) (D.faults disk.new) result }
 {
     write_through(disk, entry_at(slot), entry)

@@ -1,6 +1,7 @@
 //! The search for the oldest fresh packet of a direction.
 
-ghost use Rattle.std.specs.Prelude.{◌≡◌, ◌+◌, ◌-◌, ◌<◌, ◌≤◌, ◌^◌, true, not, length, drop, slice_get, IfSome, Some};
+ghost use Rattle.std.specs.Prelude.{◌≡◌, ◌+◌, ◌-◌, ◌<◌, ◌≤◌, ◌^◌, true, not, length, drop};
+ghost use Rattle.std.specs.Prelude.{slice_get, IfSome, Some};
 ghost use Rattle.link_spec.specs.Link.{may_come, is_down, is_fresh, first_fresh};
 ghost use Rattle.link_lanes.specs.Latest.{first_of};
 ghost use Rattle.link_lanes.specs.Fresh.{sooner};
@@ -9,7 +10,8 @@ use crate::latest::Latest;
 use crate::ways::Ways;
 use link_spec::{Direction, WINDOW, Way};
 
-/// Whether a packet of this way that was sent may come: it isn't below the way's floor, and not too old.
+/// Whether a packet of this way that was sent may come: it isn't below the way's floor, and not too
+/// old.
 pub(crate) fn may_come(number: u64, way: Way, sent: u64) -> bool
     requires { number + WINDOW < 2 ^ 64 }
     ensures value { result ≡ may_come number way sent }
@@ -23,7 +25,9 @@ fn is_fresh_at(latest: &Latest, ways: &Ways, direction: Direction, place: usize)
     requires countable { latest.now.count ≤ 2 ^ 63 }
     requires held { length latest.now.last ≤ latest.now.count }
     requires there { place < length latest.now.last }
-    ensures value { IfSome (slice_get latest.now.last place) (λ s. result ≡ is_fresh (is_down direction) (not (is_down direction)) (first_of latest.now + place) s ways.now latest.now.count) }
+    ensures value { IfSome (slice_get latest.now.last place) (λ s. result
+        ≡ is_fresh (is_down direction) (not (is_down direction)) (first_of latest.now + place) s
+        ways.now latest.now.count) }
 {
     let number = latest.first() + place as u64;
     match latest.tag(place) {
@@ -45,7 +49,9 @@ pub(crate) fn first_fresh_from(
     requires countable { latest.now.count ≤ 2 ^ 63 }
     requires held { length latest.now.last ≤ latest.now.count }
     requires within { start ≤ length latest.now.last }
-    ensures value { result ≡ first_fresh (is_down direction) (not (is_down direction)) (first_of latest.now + start) (drop start latest.now.last) ways.now latest.now.count }
+    ensures value { result
+        ≡ first_fresh (is_down direction) (not (is_down direction)) (first_of latest.now + start)
+        (drop start latest.now.last) ways.now latest.now.count }
 {
     let first = latest.first();
     for place in start..latest.len() {

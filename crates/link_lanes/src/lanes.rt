@@ -1,9 +1,13 @@
 //! The link.
 
-ghost use Rattle.std.specs.Prelude.{true, ◌≡◌, ◌+◌, ◌-◌, ◌<◌, ◌≤◌, ◌^◌, length, option_map, option_copied, is_some, slice_get, unwrap_or, IsSome, IfSome, IfOk, Some, None};
+ghost use Rattle.std.specs.Prelude.{true, ◌≡◌, ◌+◌, ◌-◌, ◌<◌, ◌≤◌, ◌^◌, length, option_map};
+ghost use Rattle.std.specs.Prelude.{option_copied, is_some, slice_get, unwrap_or, IsSome, IfSome};
+ghost use Rattle.std.specs.Prelude.{IfOk, Some, None};
 ghost use Rattle.std.specs.Borrow.{sem};
-ghost use Rattle.link_spec.specs.Link.{Link, way_in, empty_link, direction_if, is_down, count, sent_on, allowed, link_after, fresh, emptied};
-ghost use Rattle.link_spec.specs.Held.{held_of, nothing_held, first_held, held_packet, held_sent, held_allowed, held_after, held_fresh, held_emptied};
+ghost use Rattle.link_spec.specs.Link.{Link, way_in, empty_link, direction_if, is_down, count};
+ghost use Rattle.link_spec.specs.Link.{sent_on, allowed, link_after, fresh, emptied};
+ghost use Rattle.link_spec.specs.Held.{held_of, nothing_held, first_held, held_packet, held_sent};
+ghost use Rattle.link_spec.specs.Held.{held_allowed, held_after, held_fresh, held_emptied};
 ghost use Rattle.link_lanes.specs.Latest.{first_of, tag_of};
 ghost use Rattle.link_lanes.specs.Fresh.{fresh_in, held_as, if_on, Skips};
 
@@ -16,8 +20,8 @@ use omci_core::{NoMemory, Packet};
 use std::alloc::Global;
 use std::marker::Model;
 
-/// The link, with its last 16,384 packets. Contracts see what is held of the link, and each call answers and steps as
-/// the whole link does.
+/// The link, with its last 16,384 packets. Contracts see what is held of the link, and each call
+/// answers and steps as the whole link does.
 #[derive(Drop)]
 pub struct Lanes {
     latest: Latest,
@@ -48,8 +52,8 @@ fn direction_if(down: bool) -> Direction
     if down { Direction::Down } else { Direction::Up }
 }
 
-/// The oldest fresh packet of a direction, none of whose packets below the known one, or below `passed` where none is
-/// known, is fresh.
+/// The oldest fresh packet of a direction, none of whose packets below the known one, or below
+/// `passed` where none is known, is fresh.
 fn refreshed(
     latest: &Latest,
     ways: &Ways,
@@ -77,7 +81,8 @@ fn if_on(on: bool, number: Option<u64>) -> Option<u64>
 impl Lanes {
     ghost use Rattle.link_lanes.specs.Lent.{EndsDelivered};
 
-    /// An empty link. It takes the memory for all that it will ever hold, which is touched as packets come.
+    /// An empty link. It takes the memory for all that it will ever hold, which is touched as
+    /// packets come.
     pub fn new(alloc: Global) -> Result<Lanes, NoMemory>
         ensures empty { IfOk result (λ lanes. lanes ≡ nothing_held) }
         ensures stands { IfOk result (λ lanes. lanes ≡ held_of empty_link) }
@@ -102,14 +107,17 @@ impl Lanes {
         self.latest.sent()
     }
 
-    /// Puts a packet onto the link, to the unit or to the manager, and answers its number. It has at least 2 bytes, and
-    /// fewer than 2^63 packets were sent before.
+    /// Puts a packet onto the link, to the unit or to the manager, and answers its number. It has
+    /// at least 2 bytes, and fewer than 2^63 packets were sent before.
     pub fn send(&mut self, down: bool, packet: &Packet) -> u64
         requires some { 2 ≤ length packet.now }
         requires countable { self.old.count < 2 ^ 63 }
         ensures number { result ≡ self.old.count }
-        ensures lanes { self.new ≡ held_sent (record { direction = direction_if down; bytes = packet.now }) self.old }
-        ensures stands { (l : Link) → self.old ≡ held_of l → (result ≡ count l) × (self.new ≡ held_of (sent_on (record { direction = direction_if down; bytes = packet.now }) l)) }
+        ensures lanes { self.new
+            ≡ held_sent (record { direction = direction_if down; bytes = packet.now }) self.old }
+        ensures stands { (l : Link) → self.old ≡ held_of l → (result ≡ count l)
+            × (self.new
+            ≡ held_of (sent_on (record { direction = direction_if down; bytes = packet.now }) l)) }
     {
         held_follows_the_link();
         let number = self.latest.sent();
@@ -135,7 +143,8 @@ impl Lanes {
     #[tactic(auto, unfolding(link_spec::specs::Held::held_allowed))]
     fn allowed_tag(&self, number: u64) -> Option<Tag>
         ensures value { result ≡ option_map tag_of (held_allowed number self.now) }
-        ensures past { IfSome result (λ tag. (way_in tag.direction tag.lane self.now.ways).floor ≤ number) }
+        ensures past { IfSome result
+            (λ tag. (way_in tag.direction tag.lane self.now.ways).floor ≤ number) }
         ensures sent { IfSome result (λ _. number < 2 ^ 63) }
     {
         if number < self.latest.first() {
@@ -154,8 +163,8 @@ impl Lanes {
         }
     }
 
-    /// Whether the packet of that number was sent and may come: it isn't below its way's floor, and is one of the last
-    /// 16,384. Whether its receiver is on isn't asked.
+    /// Whether the packet of that number was sent and may come: it isn't below its way's floor, and
+    /// is one of the last 16,384. Whether its receiver is on isn't asked.
     pub fn allowed(&self, number: u64) -> bool
         ensures value { result ≡ is_some (held_allowed number self.now) }
         ensures stands { (l : Link) → self.now ≡ held_of l → result ≡ is_some (allowed number l) }
@@ -168,7 +177,8 @@ impl Lanes {
     pub fn down(&self, number: u64) -> bool
         requires { IsSome (held_allowed number self.now) }
         ensures value { IfSome (held_allowed number self.now) (λ s. result ≡ is_down s.direction) }
-        ensures stands { (l : Link) → self.now ≡ held_of l → IfSome (allowed number l) (λ s. result ≡ is_down s.direction) }
+        ensures stands { (l : Link) → self.now ≡ held_of l
+            → IfSome (allowed number l) (λ s. result ≡ is_down s.direction) }
     {
         held_answers_for_the_link();
         match self.allowed_tag(number) {
@@ -177,7 +187,8 @@ impl Lanes {
         }
     }
 
-    /// Delivers the packet of that number, and answers whether it may come. Nothing changes where it may not.
+    /// Delivers the packet of that number, and answers whether it may come. Nothing changes where
+    /// it may not.
     #[tactic(auto, unfolding(link_spec::specs::Held::held_after, link_spec::specs::Link::ways_past))]
     fn pass(&mut self, number: u64) -> bool
         ensures allowed { result ≡ is_some (held_allowed number self.old) }
@@ -207,11 +218,14 @@ impl Lanes {
         }
     }
 
-    /// Delivers the packet of that number and answers it. None exactly where it may not come; nothing changes then.
+    /// Delivers the packet of that number and answers it. None exactly where it may not come;
+    /// nothing changes then.
     pub fn deliver(&mut self, number: u64) -> Option<&Packet>
         ensures* after { sem 𝓛 (EndsDelivered self.entry number) }
-        ensures packet { option_copied result ≡ option_map (λ s. s.bytes) (held_allowed number self.old) }
-        ensures stands { (l : Link) → self.old ≡ held_of l → option_copied result ≡ option_map (λ s. s.bytes) (allowed number l) }
+        ensures packet { option_copied result
+            ≡ option_map (λ s. s.bytes) (held_allowed number self.old) }
+        ensures stands { (l : Link) → self.old ≡ held_of l
+            → option_copied result ≡ option_map (λ s. s.bytes) (allowed number l) }
     {
         held_answers_for_the_link();
         held_follows_the_link();
@@ -223,10 +237,12 @@ impl Lanes {
         Some(&self.delivered)
     }
 
-    /// Delivers the packet of that number into `came`, and answers whether it may come. Nothing changes where it may not.
+    /// Delivers the packet of that number into `came`, and answers whether it may come. Nothing
+    /// changes where it may not.
     pub fn take(&mut self, number: u64, came: &mut Packet) -> bool
         ensures taken { result ≡ is_some (held_allowed number self.old) }
-        ensures packet { result ≡ true → Some came.new ≡ option_map (λ s. s.bytes) (held_allowed number self.old) }
+        ensures packet { result ≡ true
+            → Some came.new ≡ option_map (λ s. s.bytes) (held_allowed number self.old) }
         ensures lanes { self.new ≡ held_after number self.old }
     {
         if !self.pass(number) {
@@ -237,8 +253,8 @@ impl Lanes {
         true
     }
 
-    /// The oldest packet that is fresh: its receiver is on, it may come, and none of its direction and lane from it on
-    /// was delivered. None exactly where there is none.
+    /// The oldest packet that is fresh: its receiver is on, it may come, and none of its direction
+    /// and lane from it on was delivered. None exactly where there is none.
     #[tactic(auto, unfolding(link_spec::specs::Held::held_fresh))]
     pub fn fresh(&self, unit_on: bool, olt_on: bool) -> Option<u64>
         ensures value { result ≡ held_fresh unit_on olt_on self.now }

@@ -1,21 +1,23 @@
-//! The last packets of the link. The first 48 bytes of a packet stand apart from the rest, so that baseline packets,
-//! which have no more, touch 64 bytes each of the memory that is taken at the start.
+//! The last packets of the link. The first 48 bytes of a packet stand apart from the rest, so that
+//! baseline packets, which have no more, touch 64 bytes each of the memory that is taken at the
+//! start.
 
-ghost use Rattle.std.specs.Prelude.{◌≡◌, ◌+◌, ◌-◌, ◌<◌, ◌≤◌, ◌^◌, length, take, drop, true, slice_get, option_map, Some, IfOk};
+ghost use Rattle.std.specs.Prelude.{◌≡◌, ◌+◌, ◌-◌, ◌<◌, ◌≤◌, ◌^◌, length, take, drop, true};
+ghost use Rattle.std.specs.Prelude.{slice_get, option_map, Some, IfOk};
 ghost use Rattle.frame_spec.specs.declared.TheConstants.{MAX_PACKET_BYTES};
 ghost use Rattle.tci_spec.specs.Tci.{priority_of, packet_tci};
 ghost use Rattle.link_spec.specs.Link.{lane_of};
 ghost use Rattle.circular_buffer.specs.Buffer.{buffer};
-ghost use Rattle.link_lanes.specs.Latest.{AddsRest, is_long, rests_of, packet_of, nothing_sent, added, with_packet, with_room, first_of, tag_of};
+ghost use Rattle.link_lanes.specs.Latest.{AddsRest, is_long, rests_of, packet_of, nothing_sent};
+ghost use Rattle.link_lanes.specs.Latest.{added, with_packet, with_room, first_of, tag_of};
 
 use crate::ways::Tag;
 use circular_buffer::HeapCircularBuffer;
 use frame_spec::FRAME_BYTES;
 use link_spec::{Direction, WINDOW};
-use omci_core::{MAX_PACKET_BYTES, NoMemory, Packet, Priority, filled, front_filled};
+use omci_core::{MAX_PACKET_BYTES, NoMemory, Packet, Priority, filled, front_filled, priority_of};
 use std::alloc::Global;
 use std::marker::Model;
-use tci_spec::FIRST_HIGH_TCI;
 
 /// So many bytes of each packet stand together: all of a baseline frame.
 pub(crate) const FRONT_LENGTH: usize = FRAME_BYTES;
@@ -51,7 +53,10 @@ impl Model for Latest {
 
     ghost Value = { spec.Latest };
 
-    ghost view = { λ l. record { count = l.sent; last = spec.joined l.fronts.items l.rests.items } };
+    ghost view = { λ l. record {
+      count = l.sent;
+      last = spec.joined l.fronts.items l.rests.items;
+    } };
 
     ghost invariant = { λ l. spec.IsLatest l.fronts l.rests l.sent l.rests_sent };
 }
@@ -90,7 +95,8 @@ fn push_rest(rests: &mut HeapCircularBuffer<[u8; REST_LENGTH]>, bytes: &[u8]) ->
 
 /// Lets the first rest go, where the packet that goes had one.
 fn pop_rest(rests: &mut HeapCircularBuffer<[u8; REST_LENGTH]>, packet: &Front)
-    ensures value { rests.new ≡ buffer (drop (rests_of packet.now) rests.old.items) rests.old.capacity }
+    ensures value { rests.new
+        ≡ buffer (drop (rests_of packet.now) rests.old.items) rests.old.capacity }
 {
     if packet.length as usize > FRONT_LENGTH {
         rests.pop_front();
@@ -132,12 +138,7 @@ fn copy_packet(
 fn lane_of(bytes: &[u8; FRONT_LENGTH]) -> Priority
     ensures value { result ≡ lane_of bytes.now }
 {
-    let tci = u16::from_be_bytes([bytes[0], bytes[1]]);
-    if tci < FIRST_HIGH_TCI {
-        Priority::Low
-    } else {
-        Priority::High
-    }
+    priority_of(u16::from_be_bytes([bytes[0], bytes[1]]))
 }
 
 impl Latest {
@@ -181,7 +182,8 @@ impl Latest {
         requires some { 2 ≤ length bytes.now }
         requires most { length bytes.now ≤ MAX_PACKET_BYTES }
         requires countable { self.old.count < 2 ^ 63 }
-        ensures value { self.new ≡ with_packet (record { direction = direction; bytes = bytes.now }) self.old }
+        ensures value { self.new
+            ≡ with_packet (record { direction = direction; bytes = bytes.now }) self.old }
     {
         self.make_room();
         self.add(direction, bytes);
@@ -205,7 +207,8 @@ impl Latest {
         requires most { length bytes.now ≤ MAX_PACKET_BYTES }
         requires countable { self.old.count < 2 ^ 63 }
         requires room { length self.old.last < WINDOW }
-        ensures value { self.new ≡ added (record { direction = direction; bytes = bytes.now }) self.old }
+        ensures value { self.new
+            ≡ added (record { direction = direction; bytes = bytes.now }) self.old }
     {
         let front = Front {
             direction,

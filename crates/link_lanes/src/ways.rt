@@ -28,7 +28,12 @@ impl Model for Ways {
 
     ghost Value = { link.Ways };
 
-    ghost view = { λ w. record { down_low = w.down_low; down_high = w.down_high; up_low = w.up_low; up_high = w.up_high } };
+    ghost view = { λ w. record {
+      down_low = w.down_low;
+      down_high = w.down_high;
+      up_low = w.up_low;
+      up_high = w.up_high;
+    } };
 }
 
 impl Ways {
@@ -63,7 +68,9 @@ impl Ways {
     /// A packet of that direction and lane was delivered.
     pub(crate) fn pass(&mut self, tag: Tag, number: u64)
         requires { number + 1 < 2 ^ 64 }
-        ensures value { self.new ≡ with_way tag.direction tag.lane (passed number (way_in tag.direction tag.lane self.old)) self.old }
+        ensures value { self.new
+            ≡ with_way tag.direction tag.lane
+            (passed number (way_in tag.direction tag.lane self.old)) self.old }
     {
         let way = Way {
             floor: number,

@@ -2,6 +2,7 @@
 use Rattle.std.proofs.Common.{◌≡◌, ℕ, zero, suc, ◌+◌, List, [], ◌∷◌, ◌++◌, Option, Some, None, is_some, refl, sym, ◌∙◌, ap, append_assoc}
 use Rattle.std.proofs.lemmas.List.{append-nil}
 use Rattle.unit_spec.specs.Onu.{Onu}
+use Rattle.unit_spec.specs.Noticing.{Noticing}
 use Rattle.link_spec.specs.declared.Direction.{Direction}
 use Rattle.link_spec.specs.declared.Direction.TheVariants.{Down, Up}
 use Rattle.link_spec.specs.Link.{Sent, Link, count, allowed}
@@ -10,9 +11,9 @@ use Rattle.link_laws.proofs.Held.{held_of-allowed, held_of-fresh, held_of-sent, 
 use Rattle.manager_spec.specs.declared.Refusal.{Refusal}
 use Rattle.manager_spec.specs.Manager.{Manager, Outcome}
 use Rattle.manager_spec.specs.Submitting.{Submission}
-use Rattle.script_spec.specs.Script.{Action, Probe, Reset, Get, Create, Set, Delete, Resync, Check, Deliver, Flow, NoiseUnit, NoiseOlt, Tick, CutUnit, CutOlt, StartUnit, StartOlt}
+use Rattle.script_spec.specs.Script.{Action, Probe, Reset, Get, Create, Set, Delete, Resync, Audit, Check, Deliver, Flow, NoiseUnit, NoiseOlt, Tick, Sense, Alarm, CutUnit, CutOlt, StartUnit, StartOlt}
 use Rattle.world_spec.specs.Happenings.{Happening, UnitStarted, ManagerStarted, PacketCame, PacketSent, on_link, link_read, on_held, held_read, next_after, next_after_all}
-use Rattle.world_spec.specs.Ends.{Ends, Step, still, unit_got, manager_got, arrives, arrives_at, noise, second, manager_ticks, unit_ticks, submission, submission_by, cut_unit, cut_manager, start_unit, start_manager}
+use Rattle.world_spec.specs.Ends.{Ends, Step, still, unit_got, manager_got, arrives, arrives_at, noise, second, manager_ticks, unit_ticks, unit_notices, submission, submission_by, cut_unit, cut_manager, start_unit, start_manager}
 use Rattle.world_spec.specs.Nodes.{Nodes, delivery_of, delivery, nodes_after_step, goes_on, flow_from, oldest_fresh, flow, acted, next_event, step}
 use Rattle.world_spec.specs.Trace.{happening_text, lines_text, turn_text}
 use Rattle.link_replay.specs.Seen.{Seen, Shown, shown, followed, seen_of}
@@ -230,6 +231,11 @@ second_event e = by_unit (manager_ticks e.manager e).ends.unit _ ∙ by_manager 
     by_unit None f = refl
     by_unit (Some u) f = refl
 
+notices_event : (call : Onu → Noticing) (o : Option Onu) (e : Ends)
+    → (unit_notices call o e).ends.event ≡ e.event
+notices_event call None e = refl
+notices_event call (Some u) e = refl
+
 cut_unit_event : (o : Option Onu) (e : Ends) → (cut_unit o e).ends.event ≡ e.event
 cut_unit_event None e = refl
 cut_unit_event (Some u) e = refl
@@ -255,12 +261,15 @@ acted_event (Create lane entity values) n = step_submits _ n.ends.manager n.ends
 acted_event (Set lane entity mask values) n = step_submits _ n.ends.manager n.ends
 acted_event (Delete lane entity) n = step_submits _ n.ends.manager n.ends
 acted_event Resync n = step_submits _ n.ends.manager n.ends
+acted_event Audit n = step_submits _ n.ends.manager n.ends
 acted_event Check n = step_submits _ n.ends.manager n.ends
 acted_event (Deliver number) n = delivered_event (allowed number n.link) number n.ends
 acted_event (Flow times) n = flow_event times n
 acted_event (NoiseUnit bytes) n = noise_event Down bytes n.ends
 acted_event (NoiseOlt bytes) n = noise_event Up bytes n.ends
 acted_event Tick n = second_event n.ends
+acted_event (Sense entity number value) n = notices_event _ n.ends.unit n.ends
+acted_event (Alarm entity bitmap) n = notices_event _ n.ends.unit n.ends
 acted_event CutUnit n = cut_unit_event n.ends.unit n.ends
 acted_event CutOlt n = cut_manager_event n.ends.manager n.ends
 acted_event StartUnit n = start_unit_event n.ends.unit n.ends

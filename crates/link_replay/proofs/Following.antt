@@ -9,16 +9,17 @@ use Rattle.link_spec.specs.Held.{Held, held_sent}
 use Rattle.manager_spec.specs.declared.Report.{Report}
 use Rattle.manager_spec.specs.declared.Refusal.{Refusal}
 use Rattle.upload_spec.specs.Pieces.{Copy}
+use Rattle.alarm_spec.specs.Alarms.{Alarm}
 use Rattle.manager_spec.specs.declared.Report.TheVariants as report
 use Rattle.manager_spec.specs.Manager.{Manager, Outcome, Sending, packets_of}
 use Rattle.manager_spec.specs.Submitting.{Submission}
 use Rattle.manager_spec.specs.Steps.{after_packet, after_tick}
 use Rattle.olt_manager.specs.State.{State, sound}
 use Rattle.world_spec.specs.declared.Effect.TheVariants as effect
-use Rattle.world_spec.specs.Happenings.{Happening, ReplyTaken, held_read}
-use Rattle.world_spec.specs.Ends.{Ends, sends, if_drawn, if_asked, goes_down, copy_told, reported, manager_did, submission_by, submission, manager_got, manager_ticks}
+use Rattle.world_spec.specs.Happenings.{Happening, ReplyTaken, NoticeTaken, held_read}
+use Rattle.world_spec.specs.Ends.{Ends, sends, if_drawn, if_asked, goes_down, copy_told, result_told, report_told, manager_did, submission_by, submission, manager_got, manager_ticks}
 use Rattle.world_spec.specs.Trace.{line_text, lines_text}
-use Rattle.link_replay.specs.Seen.{Seen, shown, followed, with_downs, downs_text, told_text, reports_text, down}
+use Rattle.link_replay.specs.Seen.{Seen, shown, followed, with_downs, downs_text, copy_text, told_text, reports_text, down}
 
 -- a line alone
 pub one_line : (text line : List ℕ) → text ++ (line ++ []) ≡ text ++ line
@@ -30,43 +31,55 @@ two_lines text first second = ap (λ l. text ++ (first ++ l)) (append-nil second
 
 -- ---- reports
 
-told_then : (event next : ℕ) (r : Report) (copy : Option Copy) (rest : List Happening)
-    → lines_text event next (copy_told r copy ++ rest)
-    ≡ told_text event r copy ++ lines_text event next rest
-told_then event next (report.Synced entities counter) (Some copy) rest = refl
-told_then event next (report.Synced entities counter) None rest = refl
-told_then event next _ copy rest = refl
+copy_then : (event next : ℕ) (copy : Option Copy) (rest : List Happening)
+    → lines_text event next (copy_told copy ++ rest)
+    ≡ copy_text event copy ++ lines_text event next rest
+copy_then event next None rest = refl
+copy_then event next (Some copy) rest = refl
 
-told_held : (r : Report) (copy : Option Copy) (rest : List Happening) (h : Held)
-    → held_read (copy_told r copy ++ rest) h ≡ held_read rest h
-told_held (report.Synced entities counter) (Some copy) rest h = refl
-told_held (report.Synced entities counter) None rest h = refl
-told_held _ copy rest h = refl
+copy_held : (copy : Option Copy) (rest : List Happening) (h : Held)
+    → held_read (copy_told copy ++ rest) h ≡ held_read rest h
+copy_held None rest h = refl
+copy_held (Some copy) rest h = refl
 
-reports_then : (event next : ℕ) (copy : Option Copy) (rs : List Report) (rest : List Happening)
-    → lines_text event next (flat_map (reported copy) rs ++ rest)
-    ≡ reports_text event copy rs ++ lines_text event next rest
-reports_then event next copy [] rest = refl
-reports_then event next copy (r ∷ rs) rest =
+told_then : (event next : ℕ) (r : Report) (m : Manager) (rest : List Happening)
+    → lines_text event next (result_told r m ++ rest)
+    ≡ told_text event r m.copy m.table.rows ++ lines_text event next rest
+told_then event next (report.Synced entities counter) m rest = copy_then event next m.copy rest
+told_then event next (report.Audited rows) m rest = refl
+told_then event next _ m rest = refl
+
+told_held : (r : Report) (m : Manager) (rest : List Happening) (h : Held)
+    → held_read (result_told r m ++ rest) h ≡ held_read rest h
+told_held (report.Synced entities counter) m rest h = copy_held m.copy rest h
+told_held (report.Audited rows) m rest h = refl
+told_held _ m rest h = refl
+
+reports_then : (event next : ℕ) (m : Manager) (rs : List Report) (rest : List Happening)
+    → lines_text event next (flat_map (report_told m) rs ++ rest)
+    ≡ reports_text event m.copy m.table.rows rs ++ lines_text event next rest
+reports_then event next m [] rest = refl
+reports_then event next m (r ∷ rs) rest =
     let line = line_text event (effect.Reported r) in
-    let later = flat_map (reported copy) rs ++ rest in
-    let told = told_text event r copy in
+    let later = flat_map (report_told m) rs ++ rest in
+    let told = told_text event r m.copy m.table.rows in
+    let others = reports_text event m.copy m.table.rows rs in
     let end = lines_text event next rest in
     ap (λ hs. line ++ lines_text event next hs)
-    (append_assoc (copy_told r copy) (flat_map (reported copy) rs) rest)
-    ∙ ap (λ t. line ++ t) (told_then event next r copy later)
-    ∙ ap (λ t. line ++ (told ++ t)) (reports_then event next copy rs rest)
-    ∙ ap (λ t. line ++ t) (sym (append_assoc told (reports_text event copy rs) end))
-    ∙ sym (append_assoc line (told ++ reports_text event copy rs) end)
-    ∙ ap (λ t. t ++ end) (sym (append_assoc line told (reports_text event copy rs)))
+    (append_assoc (result_told r m) (flat_map (report_told m) rs) rest)
+    ∙ ap (λ t. line ++ t) (told_then event next r m later)
+    ∙ ap (λ t. line ++ (told ++ t)) (reports_then event next m rs rest)
+    ∙ ap (λ t. line ++ t) (sym (append_assoc told others end))
+    ∙ sym (append_assoc line (told ++ others) end)
+    ∙ ap (λ t. t ++ end) (sym (append_assoc line told others))
 
-reports_held : (copy : Option Copy) (rs : List Report) (rest : List Happening) (h : Held)
-    → held_read (flat_map (reported copy) rs ++ rest) h ≡ held_read rest h
-reports_held copy [] rest h = refl
-reports_held copy (r ∷ rs) rest h =
-    ap (λ hs. held_read hs h) (append_assoc (copy_told r copy) (flat_map (reported copy) rs) rest)
-    ∙ told_held r copy (flat_map (reported copy) rs ++ rest) h
-    ∙ reports_held copy rs rest h
+reports_held : (m : Manager) (rs : List Report) (rest : List Happening) (h : Held)
+    → held_read (flat_map (report_told m) rs ++ rest) h ≡ held_read rest h
+reports_held m [] rest h = refl
+reports_held m (r ∷ rs) rest h =
+    ap (λ hs. held_read hs h) (append_assoc (result_told r m) (flat_map (report_told m) rs) rest)
+    ∙ told_held r m (flat_map (report_told m) rs ++ rest) h
+    ∙ reports_held m rs rest h
 
 -- that replies were taken is neither a line nor a packet
 taken_then : (event next : ℕ) (lanes : List Priority) (rest : List Happening)
@@ -78,6 +91,17 @@ taken_held : (lanes : List Priority) (rest : List Happening) (h : Held)
     → held_read (map ReplyTaken lanes ++ rest) h ≡ held_read rest h
 taken_held [] rest h = refl
 taken_held (l ∷ ls) rest h = taken_held ls rest h
+
+-- nor that notices were
+noticed_then : (event next : ℕ) (notices : List Alarm) (rest : List Happening)
+    → lines_text event next (map NoticeTaken notices ++ rest) ≡ lines_text event next rest
+noticed_then event next [] rest = refl
+noticed_then event next (n ∷ ns) rest = noticed_then event next ns rest
+
+noticed_held : (notices : List Alarm) (rest : List Happening) (h : Held)
+    → held_read (map NoticeTaken notices ++ rest) h ≡ held_read rest h
+noticed_held [] rest h = refl
+noticed_held (n ∷ ns) rest h = noticed_held ns rest h
 
 -- ---- packets that go down
 
@@ -166,40 +190,43 @@ abbrev pub manager_ends : Outcome → Ends → Ends
 manager_ends o e = record e { manager = Some (record o.manager { reports = [] }) }
 
 -- reports are lines, and then packets go down
-pub manager_followed : (o : Outcome) (w : Seen) (text : List ℕ) → shown (record { ends = manager_ends o w.ends; held = with_downs (packets_of o.sendings) w.held }) (text ++ (reports_text w.ends.event o.manager.copy o.manager.reports ++ downs_text w.ends.event w.held.count (packets_of o.sendings))) ≡ followed (manager_did o w.ends) w text
+pub manager_followed : (o : Outcome) (w : Seen) (text : List ℕ) → shown (record { ends = manager_ends o w.ends; held = with_downs (packets_of o.sendings) w.held }) (text ++ (reports_text w.ends.event o.manager.copy o.manager.table.rows o.manager.reports ++ downs_text w.ends.event w.held.count (packets_of o.sendings))) ≡ followed (manager_did o w.ends) w text
 manager_followed o w text =
     let event = w.ends.event in
     let next = w.held.count in
-    let copy = o.manager.copy in
-    let after = flat_map (reported copy) o.manager.reports ++ flat_map sends o.sendings in
-    let parts = append_assoc (map ReplyTaken o.taken) (flat_map (reported copy) o.manager.reports)
-    (flat_map sends o.sendings) in
+    let told = flat_map (report_told o.manager) o.manager.reports in
+    let sent = flat_map sends o.sendings in
+    let taken = map ReplyTaken o.taken in
+    let notices = map NoticeTaken o.noticed in
+    let parts = append_assoc (taken ++ notices) told sent ∙ append_assoc taken notices (told ++ sent) in
     let lines = ap (lines_text event next) parts
-    ∙ taken_then event next o.taken after
-    ∙ reports_then event next copy o.manager.reports (flat_map sends o.sendings)
-    ∙ ap (λ t. reports_text event o.manager.copy o.manager.reports ++ t) (sendings_text event next o.sendings) in
+    ∙ taken_then event next o.taken (notices ++ (told ++ sent))
+    ∙ noticed_then event next o.noticed (told ++ sent)
+    ∙ reports_then event next o.manager o.manager.reports sent
+    ∙ ap (λ t. reports_text event o.manager.copy o.manager.table.rows o.manager.reports ++ t) (sendings_text event next o.sendings) in
     let held = ap (λ hs. held_read hs w.held) parts
-    ∙ taken_held o.taken after w.held
-    ∙ reports_held copy o.manager.reports (flat_map sends o.sendings) w.held
+    ∙ taken_held o.taken (notices ++ (told ++ sent)) w.held
+    ∙ noticed_held o.noticed (told ++ sent) w.held
+    ∙ reports_held o.manager o.manager.reports sent w.held
     ∙ sendings_held o.sendings w.held in
-    ap (λ h. shown (record { ends = manager_ends o w.ends; held = h }) (text ++ (reports_text event o.manager.copy o.manager.reports ++ downs_text event next (packets_of o.sendings)))) (sym held)
+    ap (λ h. shown (record { ends = manager_ends o w.ends; held = h }) (text ++ (reports_text event o.manager.copy o.manager.table.rows o.manager.reports ++ downs_text event next (packets_of o.sendings)))) (sym held)
     ∙ ap (λ t. shown (record { ends = manager_ends o w.ends; held = held_read (manager_did o w.ends).happenings w.held }) (text ++ t)) (sym lines)
 
 -- what the manager did, seen after its reports were taken out and its packets sent
-pub manager_shown : (o : Outcome) (w new : Seen) (m : State) (ps : List (List ℕ)) (before after : List ℕ) → m ≡ sound o.manager → ps ≡ packets_of o.sendings → new ≡ record { ends = record w.ends { manager = Some (record m.manager { reports = [] }) }; held = with_downs ps w.held } → after ≡ before ++ (reports_text w.ends.event m.manager.copy m.manager.reports ++ downs_text w.ends.event w.held.count ps) → shown new after ≡ followed (manager_did o w.ends) w before
+pub manager_shown : (o : Outcome) (w new : Seen) (m : State) (ps : List (List ℕ)) (before after : List ℕ) → m ≡ sound o.manager → ps ≡ packets_of o.sendings → new ≡ record { ends = record w.ends { manager = Some (record m.manager { reports = [] }) }; held = with_downs ps w.held } → after ≡ before ++ (reports_text w.ends.event m.manager.copy m.manager.table.rows m.manager.reports ++ downs_text w.ends.event w.held.count ps) → shown new after ≡ followed (manager_did o w.ends) w before
 manager_shown o w new m ps before after m_is ps_is new_is after_is =
     let new' = new_is
     ∙ ap (λ (x : State). record { ends = record w.ends { manager = Some (record x.manager { reports = [] }) }; held = with_downs ps w.held }) m_is
     ∙ ap (λ qs. record { ends = manager_ends o w.ends; held = with_downs qs w.held }) ps_is in
     let after' = after_is
-    ∙ ap (λ (x : State). before ++ (reports_text w.ends.event x.manager.copy x.manager.reports ++ downs_text w.ends.event w.held.count ps)) m_is
-    ∙ ap (λ qs. before ++ (reports_text w.ends.event o.manager.copy o.manager.reports ++ downs_text w.ends.event w.held.count qs)) ps_is in
+    ∙ ap (λ (x : State). before ++ (reports_text w.ends.event x.manager.copy x.manager.table.rows x.manager.reports ++ downs_text w.ends.event w.held.count ps)) m_is
+    ∙ ap (λ qs. before ++ (reports_text w.ends.event o.manager.copy o.manager.table.rows o.manager.reports ++ downs_text w.ends.event w.held.count qs)) ps_is in
     ap (λ x. shown x after) new'
     ∙ ap (λ t. shown (record { ends = manager_ends o w.ends; held = with_downs (packets_of o.sendings) w.held }) t) after'
     ∙ manager_followed o w before
 
 -- a submission that is accepted
-pub accepted_shown : (call : Manager → Submission) (m m' : State) (w new : Seen) (ps : List (List ℕ)) (before after : List ℕ) → w.ends.manager ≡ Some m.manager → (call m.manager).refusal ≡ None → m' ≡ sound (call m.manager).outcome.manager → ps ≡ packets_of (call m.manager).outcome.sendings → new ≡ record { ends = record w.ends { manager = Some (record m'.manager { reports = [] }) }; held = with_downs ps w.held } → after ≡ before ++ (reports_text w.ends.event m'.manager.copy m'.manager.reports ++ downs_text w.ends.event w.held.count ps) → shown new after ≡ followed (submission call w.ends.manager w.ends) w before
+pub accepted_shown : (call : Manager → Submission) (m m' : State) (w new : Seen) (ps : List (List ℕ)) (before after : List ℕ) → w.ends.manager ≡ Some m.manager → (call m.manager).refusal ≡ None → m' ≡ sound (call m.manager).outcome.manager → ps ≡ packets_of (call m.manager).outcome.sendings → new ≡ record { ends = record w.ends { manager = Some (record m'.manager { reports = [] }) }; held = with_downs ps w.held } → after ≡ before ++ (reports_text w.ends.event m'.manager.copy m'.manager.table.rows m'.manager.reports ++ downs_text w.ends.event w.held.count ps) → shown new after ≡ followed (submission call w.ends.manager w.ends) w before
 accepted_shown call m m' w new ps before after on accepted m_is ps_is new_is after_is =
     manager_shown (call m.manager).outcome w new m' ps before after m_is ps_is new_is after_is
     ∙ ap (λ r. followed (submission_by r (call m.manager).outcome w.ends) w before) (sym accepted)
@@ -224,7 +251,7 @@ refused_shown call m m' r w before after on refused same after_is =
 
 -- ---- the same, where the world is seen through its fields
 
-pub accepted_there : (call : Manager → Submission) (m m' : State) (v w new : Seen) (ps : List (List ℕ)) (before after : List ℕ) → v ≡ w → v.ends.manager ≡ Some m.manager → (call m.manager).refusal ≡ None → m' ≡ sound (call m.manager).outcome.manager → ps ≡ packets_of (call m.manager).outcome.sendings → new ≡ record { ends = record v.ends { manager = Some (record m'.manager { reports = [] }) }; held = with_downs ps v.held } → after ≡ before ++ (reports_text v.ends.event m'.manager.copy m'.manager.reports ++ downs_text v.ends.event v.held.count ps) → shown new after ≡ followed (submission call w.ends.manager w.ends) w before
+pub accepted_there : (call : Manager → Submission) (m m' : State) (v w new : Seen) (ps : List (List ℕ)) (before after : List ℕ) → v ≡ w → v.ends.manager ≡ Some m.manager → (call m.manager).refusal ≡ None → m' ≡ sound (call m.manager).outcome.manager → ps ≡ packets_of (call m.manager).outcome.sendings → new ≡ record { ends = record v.ends { manager = Some (record m'.manager { reports = [] }) }; held = with_downs ps v.held } → after ≡ before ++ (reports_text v.ends.event m'.manager.copy m'.manager.table.rows m'.manager.reports ++ downs_text v.ends.event v.held.count ps) → shown new after ≡ followed (submission call w.ends.manager w.ends) w before
 accepted_there call m m' v w new ps before after same on accepted m_is ps_is new_is after_is =
     accepted_shown call m m' v new ps before after on accepted m_is ps_is new_is after_is
     ∙ ap (λ u. followed (submission call u.ends.manager u.ends) u before) same
@@ -235,13 +262,13 @@ refused_there call m m' r v w before after same on refused m_is after_is =
     ∙ ap (λ u. followed (submission call u.ends.manager u.ends) u before) same
 
 -- a packet that comes to the manager, and a second
-pub received_there : (bytes : List ℕ) (m m' : State) (v w new : Seen) (ps : List (List ℕ)) (before after : List ℕ) → v ≡ w → v.ends.manager ≡ Some m.manager → m' ≡ sound (after_packet bytes m.manager).manager → ps ≡ packets_of (after_packet bytes m.manager).sendings → new ≡ record { ends = record v.ends { manager = Some (record m'.manager { reports = [] }) }; held = with_downs ps v.held } → after ≡ before ++ (reports_text v.ends.event m'.manager.copy m'.manager.reports ++ downs_text v.ends.event v.held.count ps) → shown new after ≡ followed (manager_got [] bytes w.ends.manager w.ends) w before
+pub received_there : (bytes : List ℕ) (m m' : State) (v w new : Seen) (ps : List (List ℕ)) (before after : List ℕ) → v ≡ w → v.ends.manager ≡ Some m.manager → m' ≡ sound (after_packet bytes m.manager).manager → ps ≡ packets_of (after_packet bytes m.manager).sendings → new ≡ record { ends = record v.ends { manager = Some (record m'.manager { reports = [] }) }; held = with_downs ps v.held } → after ≡ before ++ (reports_text v.ends.event m'.manager.copy m'.manager.table.rows m'.manager.reports ++ downs_text v.ends.event v.held.count ps) → shown new after ≡ followed (manager_got [] bytes w.ends.manager w.ends) w before
 received_there bytes m m' v w new ps before after same on m_is ps_is new_is after_is =
     manager_shown (after_packet bytes m.manager) v new m' ps before after m_is ps_is new_is after_is
     ∙ ap (λ o. followed (manager_got [] bytes o v.ends) v before) (sym on)
     ∙ ap (λ u. followed (manager_got [] bytes u.ends.manager u.ends) u before) same
 
-pub ticked_there : (m m' : State) (v w new : Seen) (ps : List (List ℕ)) (before after : List ℕ) → v ≡ w → v.ends.manager ≡ Some m.manager → m' ≡ sound (after_tick m.manager).manager → ps ≡ packets_of (after_tick m.manager).sendings → new ≡ record { ends = record v.ends { manager = Some (record m'.manager { reports = [] }) }; held = with_downs ps v.held } → after ≡ before ++ (reports_text v.ends.event m'.manager.copy m'.manager.reports ++ downs_text v.ends.event v.held.count ps) → shown new after ≡ followed (manager_ticks w.ends.manager w.ends) w before
+pub ticked_there : (m m' : State) (v w new : Seen) (ps : List (List ℕ)) (before after : List ℕ) → v ≡ w → v.ends.manager ≡ Some m.manager → m' ≡ sound (after_tick m.manager).manager → ps ≡ packets_of (after_tick m.manager).sendings → new ≡ record { ends = record v.ends { manager = Some (record m'.manager { reports = [] }) }; held = with_downs ps v.held } → after ≡ before ++ (reports_text v.ends.event m'.manager.copy m'.manager.table.rows m'.manager.reports ++ downs_text v.ends.event v.held.count ps) → shown new after ≡ followed (manager_ticks w.ends.manager w.ends) w before
 ticked_there m m' v w new ps before after same on m_is ps_is new_is after_is =
     manager_shown (after_tick m.manager) v new m' ps before after m_is ps_is new_is after_is
     ∙ ap (λ o. followed (manager_ticks o v.ends) v before) (sym on)

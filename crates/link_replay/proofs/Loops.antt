@@ -9,9 +9,11 @@ use Rattle.std.specs.Prelude.{slice_index_or}
 use Rattle.omci_types.specs.declared.EntityId.{EntityId}
 use Rattle.mib_spec.specs.Database.{Values, bytes_of}
 use Rattle.upload_spec.specs.Pieces.{Copy, mask_of}
+use Rattle.alarm_spec.specs.Alarms.{Alarm, Alarms}
+use Rattle.alarm_log.specs.Places.{alarm_at}
 use Rattle.manager_spec.specs.declared.Report.{Report}
 use Rattle.world_spec.specs.declared.Effect.TheVariants as effect
-use Rattle.world_spec.specs.Trace.{line_text, copy_line, entry_line}
+use Rattle.world_spec.specs.Trace.{line_text, copy_line, entry_line, alarm_line, row_line}
 use Rattle.olt_manager.specs.State.{State}
 use Rattle.link_replay.specs.Seen.{Seen, with_downs, downs_text, report_lines, reports_text, down}
 
@@ -30,31 +32,31 @@ cleared m = record m { manager = record m.manager { reports = [] } }
 
 pub record ReportsSoFar (event : ℕ) (first now : State) (before text : List ℕ) : Type 0 where
   pub manager : cleared now ≡ cleared first
-  pub lines : text ++ reports_text event now.manager.copy now.manager.reports ≡ before ++ reports_text event first.manager.copy first.manager.reports
+  pub lines : text ++ reports_text event now.manager.copy now.manager.table.rows now.manager.reports ≡ before ++ reports_text event first.manager.copy first.manager.table.rows first.manager.reports
 
--- taking a report out leaves the copy as it was
+-- taking a report out leaves all else as it was
 abbrev pub taken_out : State → List Report → State
 taken_out m rs = record m { manager = record m.manager { reports = rs } }
 
-pub report_written : (event : ℕ) (first now after : State) (r : Report) (before text more : List ℕ) → ReportsSoFar event first now before text → now.manager.reports ≡ (r ∷ []) ++ after.manager.reports → after ≡ record now { manager = record now.manager { reports = after.manager.reports } } → more ≡ text ++ report_lines event after.manager.copy r → ReportsSoFar event first after before more
+pub report_written : (event : ℕ) (first now after : State) (r : Report) (before text more : List ℕ) → ReportsSoFar event first now before text → now.manager.reports ≡ (r ∷ []) ++ after.manager.reports → after ≡ record now { manager = record now.manager { reports = after.manager.reports } } → more ≡ text ++ report_lines event after.manager.copy after.manager.table.rows r → ReportsSoFar event first after before more
 report_written event first now after r before text more so_far taken rest written =
-    let copy : after.manager.copy ≡ now.manager.copy = ap (λ (m : State). m.manager.copy) rest in
     let later = after.manager.reports in
-    let line = report_lines event now.manager.copy r in
+    let line = report_lines event now.manager.copy now.manager.table.rows r in
     record {
       manager = ap cleared rest ∙ so_far.manager;
       lines =
-          ap (λ t. t ++ reports_text event after.manager.copy later) written
-          ∙ ap (λ c. (text ++ report_lines event c r) ++ reports_text event c later) copy
-          ∙ append_assoc text line (reports_text event now.manager.copy later)
-          ∙ ap (λ rs. text ++ reports_text event now.manager.copy rs) (sym taken)
+          ap (λ t. t ++ reports_text event after.manager.copy after.manager.table.rows later) written
+          ∙ ap (λ (m : State). (text ++ report_lines event m.manager.copy m.manager.table.rows r)
+          ++ reports_text event m.manager.copy m.manager.table.rows later) rest
+          ∙ append_assoc text line (reports_text event now.manager.copy now.manager.table.rows later)
+          ∙ ap (λ rs. text ++ reports_text event now.manager.copy now.manager.table.rows rs) (sym taken)
           ∙ so_far.lines;
     }
 
-pub reports_done : (event : ℕ) (first now after : State) (before text : List ℕ) → ReportsSoFar event first now before text → now.manager.reports ≡ [] → after ≡ record now { manager = record now.manager { reports = after.manager.reports } } → now.manager.reports ≡ [] ++ after.manager.reports → (after ≡ cleared first) × (text ≡ before ++ reports_text event first.manager.copy first.manager.reports)
+pub reports_done : (event : ℕ) (first now after : State) (before text : List ℕ) → ReportsSoFar event first now before text → now.manager.reports ≡ [] → after ≡ record now { manager = record now.manager { reports = after.manager.reports } } → now.manager.reports ≡ [] ++ after.manager.reports → (after ≡ cleared first) × (text ≡ before ++ reports_text event first.manager.copy first.manager.table.rows first.manager.reports)
 reports_done event first now after before text so_far none rest same = (
   rest ∙ ap (λ rs. record now { manager = record now.manager { reports = rs } }) (sym same ∙ none) ∙ so_far.manager,
-  sym (append-nil text) ∙ ap (λ rs. text ++ reports_text event now.manager.copy rs) (sym none) ∙ so_far.lines,
+  sym (append-nil text) ∙ ap (λ rs. text ++ reports_text event now.manager.copy now.manager.table.rows rs) (sym none) ∙ so_far.lines,
 )
 
 -- ---- the entities of a copy
@@ -94,6 +96,36 @@ entry_written event copy place one mask bytes before text more so_far lt one_is 
     ∙ ap (λ b. (text ++ entry_line event here.0 (mask_of here.1) b) ++ later) (bytes_is no_entry)
     ∙ append_assoc text (copy_line event here) later
     ∙ ap (λ (es : Copy). text ++ flat_map (copy_line event) es) (sym (drop_there copy place lt))
+    ∙ so_far
+
+-- ---- the entities of a table
+
+-- the lines so far, and those of the entities that are left, are the lines of all
+abbrev pub AlarmsSoFar : ℕ → Alarms → ℕ → List ℕ → List ℕ → Type 0
+AlarmsSoFar event alarms place before text =
+    text ++ flat_map (alarm_line event) (drop place alarms)
+    ≡ before ++ flat_map (alarm_line event) alarms
+
+alarm_there : (xs : Alarms) (place : ℕ) → place < length xs
+    → drop place xs ≡ alarm_at xs place ∷ drop (place + 1) xs
+alarm_there [] place lt = absurd (omega arith)
+alarm_there (y ∷ rest) zero lt = refl
+alarm_there (y ∷ rest) (suc place) lt =
+    let next : suc (place + 1) ≡ suc place + 1 = omega arith in
+    alarm_there rest place (omega arith)
+    ∙ ap (λ k. alarm_at rest place ∷ drop k (y ∷ rest)) next
+
+pub alarm_written : (event : ℕ) (alarms : Alarms) (place : ℕ) (one : EntityId)
+    (bitmap before text more : List ℕ) → AlarmsSoFar event alarms place before text
+    → place < length alarms → (one, bitmap) ≡ alarm_at alarms place
+    → more ≡ text ++ row_line event one bitmap
+    → AlarmsSoFar event alarms (place + 1) before more
+alarm_written event alarms place one bitmap before text more so_far lt is written =
+    let later = flat_map (alarm_line event) (drop (place + 1) alarms) in
+    ap (λ t. t ++ later) written
+    ∙ ap (λ (x : Alarm). (text ++ alarm_line event x) ++ later) is
+    ∙ append_assoc text (alarm_line event (alarm_at alarms place)) later
+    ∙ ap (λ (xs : Alarms). text ++ flat_map (alarm_line event) xs) (sym (alarm_there alarms place lt))
     ∙ so_far
 
 -- ---- packets that go down

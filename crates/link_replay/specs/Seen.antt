@@ -7,6 +7,7 @@ use Rattle.link_spec.specs.declared.Direction.TheVariants.{Down}
 use Rattle.link_spec.specs.Link.{Sent}
 use Rattle.link_spec.specs.Held.{Held, held_of, held_sent}
 use Rattle.upload_spec.specs.Pieces.{Copy}
+use Rattle.alarm_spec.specs.Alarms.{Alarms}
 use Rattle.manager_spec.specs.declared.Report.{Report}
 use Rattle.manager_spec.specs.declared.Report.TheVariants as report
 use Rattle.manager_spec.specs.Manager.{Manager}
@@ -14,7 +15,7 @@ use Rattle.world_spec.specs.declared.Effect.TheVariants as effect
 use Rattle.world_spec.specs.Happenings.{held_read}
 use Rattle.world_spec.specs.Ends.{Ends, Step}
 use Rattle.world_spec.specs.Nodes.{Nodes}
-use Rattle.world_spec.specs.Trace.{line_text, lines_text, copy_line}
+use Rattle.world_spec.specs.Trace.{line_text, lines_text, copy_line, alarm_line}
 
 pub record Seen : Type 0 where
   pub ends : Ends
@@ -57,23 +58,33 @@ abbrev pub copy_in : Option Manager → Option Copy
 copy_in None = None
 copy_in (Some m) = m.copy
 
+abbrev pub alarms_in : Option Manager → Alarms
+alarms_in None = []
+alarms_in (Some m) = m.table.rows
+
 -- a manager whose reports were taken out
 abbrev pub without_reports : Option Manager → Option Manager
 without_reports None = None
 without_reports (Some m) = Some (record m { reports = [] })
 
--- the lines of the copy, after the report of a resynchronisation
-abbrev pub told_text : ℕ → Report → Option Copy → List ℕ
-told_text event (report.Synced entities counter) (Some copy) = flat_map (copy_line event) copy
-told_text event _ copy = []
+abbrev pub copy_text : ℕ → Option Copy → List ℕ
+copy_text event None = []
+copy_text event (Some copy) = flat_map (copy_line event) copy
+
+-- the lines of the copy after the report of a resynchronisation, and those of the table's alarms after that of an audit
+abbrev pub told_text : ℕ → Report → Option Copy → Alarms → List ℕ
+told_text event (report.Synced entities counter) copy alarms = copy_text event copy
+told_text event (report.Audited rows) copy alarms = flat_map (alarm_line event) alarms
+told_text event _ copy alarms = []
 
 -- the lines of a report
-abbrev pub report_lines : ℕ → Option Copy → Report → List ℕ
-report_lines event copy r = line_text event (effect.Reported r) ++ told_text event r copy
+abbrev pub report_lines : ℕ → Option Copy → Alarms → Report → List ℕ
+report_lines event copy alarms r =
+    line_text event (effect.Reported r) ++ told_text event r copy alarms
 
 -- the lines of each report
-abbrev pub reports_text : ℕ → Option Copy → List Report → List ℕ
-reports_text event copy reports = flat_map (report_lines event copy) reports
+abbrev pub reports_text : ℕ → Option Copy → Alarms → List Report → List ℕ
+reports_text event copy alarms reports = flat_map (report_lines event copy alarms) reports
 
 abbrev pub down : List ℕ → Sent
 down bytes = record { direction = Down; bytes = bytes }

@@ -8,19 +8,22 @@ ghost use Rattle.tci_spec.specs.Tci.{IsNumber};
 ghost use Rattle.link_spec.specs.Link.{Link, fresh};
 ghost use Rattle.link_spec.specs.Held.{held_of, held_sent, held_allowed, held_delivered, held_fresh};
 ghost use Rattle.manager_spec.specs.declared.Refusal.TheVariants as why;
-ghost use Rattle.manager_spec.specs.Submitting.{after_probe, after_submit, after_check, after_resync};
+ghost use Rattle.manager_spec.specs.Submitting.{after_probe, after_submit, after_check, after_resync, after_audit};
+ghost use Rattle.unit_spec.specs.declared.Noticed.TheVariants.{Sent};
+ghost use Rattle.unit_spec.specs.Noticing.{onu_sensed, onu_alarmed};
 ghost use Rattle.world_spec.specs.declared.Effect.{Effect};
 ghost use Rattle.world_spec.specs.declared.Effect.TheVariants as effect;
-ghost use Rattle.world_spec.specs.Ends.{Ends, first_ends, factory_software, view_of, not_enabled, submission, submission_by, unit_got, manager_got, arrives, arrives_at, noise, second, manager_ticks, unit_ticks, cut_unit, cut_manager, start_unit, start_manager};
+ghost use Rattle.world_spec.specs.Ends.{Ends, first_ends, factory_software, view_of, not_enabled, submission, submission_by, unit_got, unit_notices, notice_sent, manager_got, arrives, arrives_at, noise, second, manager_ticks, unit_ticks, cut_unit, cut_manager, start_unit, start_manager};
 ghost use Rattle.world_spec.specs.Nodes.{first_nodes, delivery_of, flow};
 ghost use Rattle.world_spec.specs.Trace.{line_text};
 ghost use Rattle.replay_script.specs.Events.{header_of};
 ghost use Rattle.olt_manager.specs.State.{AreFrames};
-ghost use Rattle.link_replay.specs.Seen.{shown, followed, seen_of, copy_in, reports_in, without_reports, reports_text, with_downs, downs_text};
+ghost use Rattle.link_replay.specs.Seen.{shown, followed, seen_of, copy_in, alarms_in, reports_in, without_reports, reports_text, with_downs, downs_text};
 
 use crate::reports::push_reports;
 use crate::texts::push_line;
 use aal5_crc::crc_of;
+use alarm_spec::BITMAP_BYTES;
 use link_lanes::Lanes;
 use link_spec::Direction;
 use manager_spec::Refusal;
@@ -32,6 +35,7 @@ use onu_agent::{Agent, Did};
 use replay_script::Header;
 use std::alloc::Global;
 use std::marker::Model;
+use unit_spec::Noticed;
 use world_spec::Effect;
 
 /// No link carries more packets: one past them is refused as if memory had run out. No script is long enough to come there.
@@ -114,7 +118,7 @@ impl Machine {
             lives: 1,
             software,
             agent: Some(Agent::start(alloc, software)?),
-            manager: Some(Manager::start(alloc, header.low, header.high)),
+            manager: Some(Manager::start(alloc, header.low, header.high)?),
             link: Lanes::new(alloc)?,
         })
     }
@@ -188,7 +192,7 @@ impl Machine {
           held = with_downs packets.now self.old.held;
         }) }
         ensures lines { OnOk result (out.new.items ≡ out.old.items
-            ++ (reports_text self.old.ends.event (copy_in self.old.ends.manager) (reports_in self.old.ends.manager)
+            ++ (reports_text self.old.ends.event (copy_in self.old.ends.manager) (alarms_in self.old.ends.manager) (reports_in self.old.ends.manager)
             ++ downs_text self.old.ends.event self.old.held.count packets.now)) }
     {
         if let Some(manager) = &mut self.manager {
@@ -286,6 +290,22 @@ impl Machine {
         Ok(())
     }
 
+    /// The manager begins an audit of the unit's alarms.
+    pub fn audit(&mut self, outbox: &mut Outbox, out: &mut Vec<u8>) -> Result<(), NoMemory>
+        ensures follows { OnOk result (shown self.new out.new.items
+            ≡ followed (submission after_audit self.old.ends.manager self.old.ends) self.old out.old.items) }
+    {
+        let Some(manager) = &mut self.manager else {
+            return self.show(&Effect::NotEnabled, out);
+        };
+        outbox.packets.clear();
+        match manager.audit(&mut outbox.packets) {
+            Ok(()) => self.after_manager(&outbox.packets, out)?,
+            Err(refusal) => self.refuse(refusal, out)?,
+        }
+        Ok(())
+    }
+
     /// Bytes come to the manager.
     fn to_manager(
         &mut self,
@@ -367,6 +387,65 @@ impl Machine {
                 self.send(Direction::Up, reply, out)
             }
         }
+    }
+
+    /// Tells what became of what the unit noticed: its notice goes up.
+    fn tell_noticed(
+        &mut self,
+        noticed: Noticed,
+        packet: &Packet,
+        out: &mut Vec<u8>,
+    ) -> Result<(), NoMemory>
+        requires whole { noticed ≡ Sent → length packet.now ≡ 48 }
+        ensures follows { OnOk result (shown self.new out.new.items ≡ followed (record {
+          ends = self.old.ends;
+          happenings = notice_sent noticed packet.now;
+        }) self.old out.old.items) }
+    {
+        match noticed {
+            Noticed::NotAllowed => self.show(&Effect::NotEnabled, out),
+            Noticed::Same => Ok(()),
+            Noticed::Sent => self.send(Direction::Up, packet, out),
+        }
+    }
+
+    /// The unit measures an attribute's value.
+    pub fn sense(
+        &mut self,
+        entity: EntityId,
+        number: u8,
+        value: &[u8],
+        outbox: &mut Outbox,
+        out: &mut Vec<u8>,
+    ) -> Result<(), NoMemory>
+        ensures follows { OnOk result (shown self.new out.new.items
+            ≡ followed (unit_notices (onu_sensed entity number value.now) self.old.ends.unit self.old.ends) self.old out.old.items) }
+    {
+        let Some(agent) = &mut self.agent else {
+            return self.show(&Effect::NotEnabled, out);
+        };
+        let noticed = agent.sense(entity, number, value, &mut outbox.reply)?;
+        self.tell_noticed(noticed, &outbox.reply, out)?;
+        Ok(())
+    }
+
+    /// The unit notices an entity's alarms.
+    pub fn alarm(
+        &mut self,
+        entity: EntityId,
+        bitmap: [u8; BITMAP_BYTES],
+        outbox: &mut Outbox,
+        out: &mut Vec<u8>,
+    ) -> Result<(), NoMemory>
+        ensures follows { OnOk result (shown self.new out.new.items
+            ≡ followed (unit_notices (onu_alarmed entity bitmap) self.old.ends.unit self.old.ends) self.old out.old.items) }
+    {
+        let Some(agent) = &mut self.agent else {
+            return self.show(&Effect::NotEnabled, out);
+        };
+        let noticed = agent.alarm(entity, bitmap, &mut outbox.reply)?;
+        self.tell_noticed(noticed, &outbox.reply, out)?;
+        Ok(())
     }
 
     // ---- deliveries
@@ -465,7 +544,7 @@ impl Machine {
         if self.manager.is_some() {
             return self.show(&Effect::NotEnabled, out);
         }
-        self.manager = Some(Manager::start(self.alloc, low, high));
+        self.manager = Some(Manager::start(self.alloc, low, high)?);
         self.link.empty();
         Ok(())
     }

@@ -3,10 +3,11 @@
 ghost use Rattle.std.specs.Prelude.{◌≡◌, ◌++◌, [], OnOk, IfSome, is_some};
 ghost use Rattle.std.specs.List.{flat_map};
 ghost use Rattle.world_spec.specs.declared.Effect.TheVariants as effect;
-ghost use Rattle.world_spec.specs.Trace.{copy_line, line_text};
+ghost use Rattle.world_spec.specs.Trace.{copy_line, alarm_line, line_text};
 ghost use Rattle.link_replay.specs.Seen.{report_lines, reports_text, told_text};
 
-use crate::texts::{push_entry, push_line};
+use crate::texts::{push_entry, push_line, push_row};
+use alarm_log::AlarmTable;
 use manager_spec::Report;
 use mib_upload::MibCopy;
 use olt_manager::Manager;
@@ -24,20 +25,35 @@ fn push_copy(out: &mut Vec<u8>, event: u64, copy: &MibCopy) -> Result<(), NoMemo
     Ok(())
 }
 
-/// Appends the lines of a report: the copy's after that of a resynchronisation.
+/// Appends a line for each entity of a table that has an alarm.
+fn push_table(out: &mut Vec<u8>, event: u64, table: &AlarmTable) -> Result<(), NoMemory>
+    ensures lines { OnOk result (out.new.items ≡ out.old.items ++ flat_map (alarm_line event) table.now.rows) }
+{
+    for place in 0..table.len() {
+        let (entity, bitmap) = table.entry(place);
+        push_row(out, event, entity, &bitmap)?;
+    }
+    Ok(())
+}
+
+/// Appends the lines of a report: the copy's after that of a resynchronisation, and the table's after that of an audit.
 fn push_report(
     manager: &Manager,
     report: Report,
     event: u64,
     out: &mut Vec<u8>,
 ) -> Result<(), NoMemory>
-    ensures lines { OnOk result (out.new.items ≡ out.old.items ++ report_lines event manager.now.manager.copy report) }
+    ensures lines { OnOk result (out.new.items ≡ out.old.items ++ report_lines event manager.now.manager.copy manager.now.manager.table.rows report) }
 {
     push_line(out, event, &Effect::Reported(report))?;
-    if let Report::Synced { .. } = report {
-        if let Some(copy) = manager.copy() {
-            push_copy(out, event, copy)?;
+    match report {
+        Report::Synced { .. } => {
+            if let Some(copy) = manager.copy() {
+                push_copy(out, event, copy)?;
+            }
         }
+        Report::Audited { .. } => push_table(out, event, manager.alarms())?,
+        _ => {}
     }
     Ok(())
 }
@@ -45,7 +61,7 @@ fn push_report(
 /// Takes the manager's reports out, and appends the lines of each.
 pub fn push_reports(manager: &mut Manager, event: u64, out: &mut Vec<u8>) -> Result<(), NoMemory>
     ensures manager { OnOk result (manager.new ≡ record manager.old { manager = record manager.old.manager { reports = [] } }) }
-    ensures lines { OnOk result (out.new.items ≡ out.old.items ++ reports_text event manager.old.manager.copy manager.old.manager.reports) }
+    ensures lines { OnOk result (out.new.items ≡ out.old.items ++ reports_text event manager.old.manager.copy manager.old.manager.table.rows manager.old.manager.reports) }
 {
     while let Some(report) = manager.report() {
         push_report(manager, report, event, out)?;

@@ -1,12 +1,13 @@
 //! The lines of the trace, each appended whole.
 
 ghost use Rattle.std.specs.Prelude.{◌≡◌, ◌++◌, ◌≤◌, List, length, OnOk, codes, decimal, Option};
+ghost use Rattle.manager_spec.specs.declared.Report.TheVariants as report;
 ghost use Rattle.world_spec.specs.declared.Effect.TheVariants as effect;
-ghost use Rattle.world_spec.specs.Trace.{line_text, effect_text, slot_text, refusal_text, report_text, note_text, phase_text, job_text, reason_text, entity_text, hex_text, entry_text, entry_line, direction_text, lane_text};
+ghost use Rattle.world_spec.specs.Trace.{line_text, effect_text, slot_text, refusal_text, report_text, note_text, phase_text, job_text, reason_text, audit_reason_text, gap_text, tci_text, entity_text, hex_text, entry_text, entry_line, row_text, row_line, direction_text, lane_text};
 
 use link_spec::Direction;
-use manager_spec::{Job, Phase, Refusal, Report, ResyncReason};
-use omci_contents::{push_bytes, push_hex, push_number, push_tci, push_text};
+use manager_spec::{AuditReason, Job, Phase, Refusal, Report, ResyncReason};
+use omci_contents::{push_bytes, push_contents_text, push_hex, push_number, push_tci, push_text};
 use omci_core::{EntityId, NoMemory, Priority, SlotView, Software};
 use omci_frames::Frame;
 use unit_spec::Note;
@@ -113,7 +114,35 @@ fn push_job(out: &mut Vec<u8>, job: Job) -> Result<(), NoMemory>
 {
     match job {
         Job::Resync => push_bytes(out, b"resync"),
+        Job::Audit => push_bytes(out, b"audit"),
     }
+}
+
+/// Appends a command's TCI after a word.
+fn push_tci_after(out: &mut Vec<u8>, word: &[u8], tci: u16) -> Result<(), NoMemory>
+    ensures text { OnOk result (out.new.items ≡ out.old.items ++ (word.now ++ tci_text tci)) }
+{
+    push_bytes(out, word)?;
+    push_tci(out, tci)
+}
+
+/// Appends a number after a word.
+fn push_one(out: &mut Vec<u8>, word: &[u8], number: u64) -> Result<(), NoMemory>
+    ensures text { OnOk result (out.new.items ≡ out.old.items ++ (word.now ++ decimal number)) }
+{
+    push_bytes(out, word)?;
+    push_number(out, number)
+}
+
+/// Appends two numbers after a word.
+fn push_two(out: &mut Vec<u8>, word: &[u8], first: u64, second: u64) -> Result<(), NoMemory>
+    ensures text { OnOk result (out.new.items ≡ out.old.items
+        ++ (word.now ++ decimal first ++ codes " " ++ decimal second)) }
+{
+    push_bytes(out, word)?;
+    push_number(out, first)?;
+    push_bytes(out, b" ")?;
+    push_number(out, second)
 }
 
 /// Appends why a resynchronisation failed.
@@ -121,10 +150,7 @@ fn push_reason(out: &mut Vec<u8>, reason: ResyncReason) -> Result<(), NoMemory>
     ensures text { OnOk result (out.new.items ≡ out.old.items ++ reason_text reason) }
 {
     match reason {
-        ResyncReason::GaveUp { tci } => {
-            push_bytes(out, b"gave-up ")?;
-            push_tci(out, tci)
-        }
+        ResyncReason::GaveUp { tci } => push_tci_after(out, b"gave-up ", tci),
         ResyncReason::Empty => push_bytes(out, b"empty"),
         ResyncReason::Truncated { entity } => {
             push_bytes(out, b"truncated ")?;
@@ -140,6 +166,29 @@ fn push_reason(out: &mut Vec<u8>, reason: ResyncReason) -> Result<(), NoMemory>
     }
 }
 
+/// Appends a gap in the numbers of notices.
+fn push_gap(out: &mut Vec<u8>, want: u8, have: u8) -> Result<(), NoMemory>
+    ensures text { OnOk result (out.new.items ≡ out.old.items ++ gap_text want have) }
+{
+    push_two(out, b"gap ", want as u64, have as u64)
+}
+
+/// Appends why an audit failed.
+fn push_audit_reason(out: &mut Vec<u8>, reason: AuditReason) -> Result<(), NoMemory>
+    ensures text { OnOk result (out.new.items ≡ out.old.items ++ audit_reason_text reason) }
+{
+    match reason {
+        AuditReason::GaveUp { tci } => push_tci_after(out, b"gave-up ", tci),
+        AuditReason::Empty => push_bytes(out, b"empty"),
+        AuditReason::Repeated { entity } => {
+            push_bytes(out, b"repeated ")?;
+            push_entity(out, entity)
+        }
+        AuditReason::Gap { want, have } => push_gap(out, want, have),
+        AuditReason::Overflow => push_bytes(out, b"overflow"),
+    }
+}
+
 /// Appends why a command was not submitted.
 fn push_refusal(out: &mut Vec<u8>, refusal: Refusal) -> Result<(), NoMemory>
     ensures text { OnOk result (out.new.items ≡ out.old.items ++ refusal_text refusal) }
@@ -149,10 +198,7 @@ fn push_refusal(out: &mut Vec<u8>, refusal: Refusal) -> Result<(), NoMemory>
             push_bytes(out, b"unproven ")?;
             push_lane(out, lane)
         }
-        Refusal::Occupied { tci } => {
-            push_bytes(out, b"occupied ")?;
-            push_tci(out, tci)
-        }
+        Refusal::Occupied { tci } => push_tci_after(out, b"occupied ", tci),
         Refusal::OutOfStep { phase } => {
             push_bytes(out, b"out-of-step ")?;
             push_phase(out, phase)
@@ -161,23 +207,19 @@ fn push_refusal(out: &mut Vec<u8>, refusal: Refusal) -> Result<(), NoMemory>
             push_bytes(out, b"job ")?;
             push_job(out, job)
         }
-        Refusal::ChangeOutstanding { tci } => {
-            push_bytes(out, b"change ")?;
-            push_tci(out, tci)
-        }
+        Refusal::ChangeOutstanding { tci } => push_tci_after(out, b"change ", tci),
         Refusal::NoMemory => push_bytes(out, b"memory"),
     }
 }
 
-/// Appends two numbers after a word.
-fn push_two(out: &mut Vec<u8>, word: &[u8], first: u64, second: u64) -> Result<(), NoMemory>
-    ensures text { OnOk result (out.new.items ≡ out.old.items
-        ++ (word.now ++ decimal first ++ codes " " ++ decimal second)) }
+/// Appends the value change that a notice tells: its entity, and its contents.
+fn push_change(out: &mut Vec<u8>, notice: &Frame) -> Result<(), NoMemory>
+    ensures text { OnOk result (out.new.items ≡ out.old.items ++ report_text (report.Change notice.now)) }
 {
-    push_bytes(out, word)?;
-    push_number(out, first)?;
+    push_bytes(out, b"change ")?;
+    push_entity(out, notice.entity)?;
     push_bytes(out, b" ")?;
-    push_number(out, second)
+    push_contents_text(out, &notice.contents)
 }
 
 /// Appends what the manager reports.
@@ -193,14 +235,8 @@ fn push_report(out: &mut Vec<u8>, report: &Report) -> Result<(), NoMemory>
             push_bytes(out, b"proved ")?;
             push_lane(out, *lane)
         }
-        Report::Freed { tci } => {
-            push_bytes(out, b"freed ")?;
-            push_tci(out, *tci)
-        }
-        Report::GaveUp { tci } => {
-            push_bytes(out, b"gave up ")?;
-            push_tci(out, *tci)
-        }
+        Report::Freed { tci } => push_tci_after(out, b"freed ", *tci),
+        Report::GaveUp { tci } => push_tci_after(out, b"gave up ", *tci),
         Report::Synced { entities, counter } => {
             push_two(out, b"synced ", *entities as u64, *counter as u64)
         }
@@ -213,6 +249,17 @@ fn push_report(out: &mut Vec<u8>, report: &Report) -> Result<(), NoMemory>
         Report::Checked { given, expected } => {
             push_two(out, b"checked ", *given as u64, *expected as u64)
         }
+        Report::Audited { rows } => push_one(out, b"audited ", *rows as u64),
+        Report::AuditFailed { reason } => {
+            push_bytes(out, b"audit failed ")?;
+            push_audit_reason(out, *reason)
+        }
+        Report::AlarmTaken { number } => push_one(out, b"notice ", *number as u64),
+        Report::AlarmRepeat { number } => push_one(out, b"repeat ", *number as u64),
+        Report::AlarmGap { want, have } => push_gap(out, *want, *have),
+        Report::AlarmOverflow { number } => push_one(out, b"overflow ", *number as u64),
+        Report::AlarmUnaudited { number } => push_one(out, b"unaudited ", *number as u64),
+        Report::Change { notice } => push_change(out, notice),
         Report::Dropped => push_bytes(out, b"dropped"),
     }
 }
@@ -225,6 +272,7 @@ fn push_note(out: &mut Vec<u8>, note: Note) -> Result<(), NoMemory>
         Note::Snapshot { entities, counter } => {
             push_two(out, b"snapshot ", entities as u64, counter as u64)
         }
+        Note::Alarms { rows } => push_one(out, b"alarms ", rows as u64),
     }
 }
 
@@ -309,5 +357,32 @@ pub fn push_entry(
     push_number(out, event)?;
     push_bytes(out, b" ")?;
     push_copied(out, entity, mask, values)?;
+    push_bytes(out, b"\n")
+}
+
+/// Appends an entity of a table, and its bitmap.
+#[tactic(auto, unfolding(world_spec::specs::Trace::row_text))]
+fn push_alarms(out: &mut Vec<u8>, entity: EntityId, bitmap: &[u8]) -> Result<(), NoMemory>
+    ensures text { OnOk result (out.new.items ≡ out.old.items ++ row_text entity bitmap.now) }
+{
+    push_bytes(out, b"row ")?;
+    push_entity(out, entity)?;
+    push_bytes(out, b" ")?;
+    push_contents_text(out, bitmap)
+}
+
+/// Appends the line of an entity of a table.
+#[tactic(auto, unfolding(world_spec::specs::Trace::row_line))]
+pub fn push_row(
+    out: &mut Vec<u8>,
+    event: u64,
+    entity: EntityId,
+    bitmap: &[u8],
+) -> Result<(), NoMemory>
+    ensures text { OnOk result (out.new.items ≡ out.old.items ++ row_line event entity bitmap.now) }
+{
+    push_number(out, event)?;
+    push_bytes(out, b" ")?;
+    push_alarms(out, entity, bitmap)?;
     push_bytes(out, b"\n")
 }

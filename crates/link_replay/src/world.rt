@@ -85,6 +85,7 @@ impl Machine {
                 self.submit(*lane, *entity, Request::Delete, outbox, out)?;
             }
             Event::Resync => self.resync(outbox, out)?,
+            Event::Audit => self.audit(outbox, out)?,
             Event::Check => self.check(outbox, out)?,
             Event::Deliver { packet } => self.deliver_there(*packet, outbox, out)?,
             Event::Flow { times } => self.flow(*times, outbox, out)?,
@@ -93,6 +94,14 @@ impl Machine {
             }
             Event::NoiseOlt { bytes } => self.noise(Direction::Up, bytes.bytes(), outbox, out)?,
             Event::Tick => self.second(outbox, out)?,
+            Event::Sense {
+                entity,
+                number,
+                value,
+            } => self.sense(*entity, *number, value.bytes(), outbox, out)?,
+            Event::Alarm { entity, bitmap } => {
+                self.alarm(*entity, filled(bitmap.bytes()), outbox, out)?;
+            }
             Event::CutUnit => self.cut_unit(out)?,
             Event::CutOlt => self.cut_manager(out)?,
             Event::StartUnit => self.start_unit(out)?,

@@ -1,9 +1,11 @@
--- The manager with its two lanes, its copy of the unit's database, and the job that runs.
+-- The manager with its two lanes, its copy of the unit's database, its table of alarms, and the job that runs.
 use Rattle.std.specs.Prelude.{ℕ, Bool, true, List, [], ◌∷◌, ◌++◌, Option, None}
 use Rattle.std.specs.List.{flat_map}
 use Rattle.omci_types.specs.declared.Priority.{Priority}
 use Rattle.omci_types.specs.declared.Priority.TheVariants.{Low, High}
 use Rattle.upload_spec.specs.Pieces.{Copy}
+use Rattle.alarm_spec.specs.Alarms.{Alarm}
+use Rattle.alarm_spec.specs.Table.{Table, new_table}
 use Rattle.lane_spec.specs.Command.{Command, command_packets}
 use Rattle.lane_spec.specs.Lane.{Lane, new_lane, next_tci, with_command}
 use Rattle.manager_spec.specs.declared.Phase.{Phase}
@@ -11,7 +13,7 @@ use Rattle.manager_spec.specs.declared.Phase.TheVariants as phase
 use Rattle.manager_spec.specs.declared.Report.{Report}
 use Rattle.manager_spec.specs.declared.Report.TheVariants as report
 
--- how far a resynchronisation has come
+-- how far a resynchronisation or an audit has come
 pub data Stage : Type 0 where
   -- it waits for the probes of these lanes
   Probing : (high low : Bool) → Stage
@@ -19,14 +21,19 @@ pub data Stage : Type 0 where
   Asking : Stage
   -- of so many pieces that one comes next, and those before it gave this copy
   Gathering : (expected next : ℕ) (copy : Copy) → Stage
+  -- it waits for the reply that says how many rows of alarms there are
+  AskingAlarms : Stage
+  -- of so many rows that one comes next, and the table gathers them
+  GatheringRows : (expected next : ℕ) → Stage
 
--- the two lanes, the phase, the copy of the last resynchronisation with the changes since, the stage
--- of the job that runs, and the reports that wait to be taken out, oldest first
+-- the two lanes, the phase, the copy of the last resynchronisation with the changes since, the table
+-- of alarms, the stage of the job that runs, and the reports that wait to be taken out, oldest first
 pub record Manager : Type 0 where
   pub low : Lane
   pub high : Lane
   pub phase : Phase
   pub copy : Option Copy
+  pub table : Table
   pub job : Option Stage
   pub reports : List Report
 
@@ -38,6 +45,7 @@ manager_started low high =
       high = new_lane High high;
       phase = phase.New;
       copy = None;
+      table = new_table;
       job = None;
       reports = [];
     }
@@ -83,15 +91,16 @@ pub record Sending : Type 0 where
   pub asks : Bool
   pub packets : List (List ℕ)
 
--- the manager after a step, the lanes in which it took a reply to a command that isn't a probe, and
--- what it sends, in order
+-- the manager after a step, the lanes in which it took a reply to a command that isn't a probe, the
+-- alarm notices that it took, and what it sends, in order
 pub record Outcome : Type 0 where
   pub manager : Manager
   pub taken : List Priority
+  pub noticed : List Alarm
   pub sendings : List Sending
 
 abbrev pub sends_nothing : Manager → Outcome
-sends_nothing m = record { manager = m; taken = []; sendings = [] }
+sends_nothing m = record { manager = m; taken = []; noticed = []; sendings = [] }
 
 -- one step and then another
 abbrev pub and_then : Outcome → (Manager → Outcome) → Outcome
@@ -99,6 +108,7 @@ and_then o next =
     record {
       manager = (next o.manager).manager;
       taken = o.taken ++ (next o.manager).taken;
+      noticed = o.noticed ++ (next o.manager).noticed;
       sendings = o.sendings ++ (next o.manager).sendings;
     }
 
@@ -112,6 +122,7 @@ command_sent asks lane c m =
     record {
       manager = with_lane lane (with_command c (lane_in lane m)) m;
       taken = [];
+      noticed = [];
       sendings =
           record {
             lane = lane;

@@ -21,11 +21,12 @@ use Rattle.lane_spec.specs.declared.Purpose.{Purpose}
 use Rattle.lane_spec.specs.declared.Purpose.TheVariants as purpose
 use Rattle.lane_spec.specs.Command.{Command}
 use Rattle.lane_spec.specs.Lane.{Lane, Waiting, lane_tick, lane_reply, is_changed_by, waiting_packets}
-use Rattle.manager_spec.specs.declared.ResyncReason.TheVariants as reason
 use Rattle.manager_spec.specs.declared.Report.TheVariants as report
-use Rattle.manager_spec.specs.Manager.{Stage, Probing, Asking, Gathering, Manager, Outcome, lane_in, with_lane, with_report, leave_step, sends_nothing, and_then}
+use Rattle.manager_spec.specs.Manager.{Stage, Probing, Asking, Gathering, AskingAlarms, GatheringRows, Manager, Outcome, lane_in, with_lane, with_report, leave_step, sends_nothing, and_then}
 use Rattle.manager_spec.specs.Copying.{followed}
-use Rattle.manager_spec.specs.Resync.{with_job, resync_failed, probe_answered, gather_on, piece_came, waits_for, job_goes_on}
+use Rattle.manager_spec.specs.Resync.{with_job, probe_answered, gather_on, piece_came}
+use Rattle.manager_spec.specs.Audit.{audit_begun, row_came, notice_came}
+use Rattle.manager_spec.specs.Jobs.{waits_for, job_lost, job_goes_on}
 
 -- ---- what a reply says
 
@@ -66,7 +67,7 @@ first_value _ = 0
 
 -- a reply to a command that isn't a probe was taken in this lane
 abbrev pub with_taken : Priority → Manager → Outcome
-with_taken lane m = record { manager = m; taken = lane ∷ []; sendings = [] }
+with_taken lane m = record { manager = m; taken = lane ∷ []; noticed = []; sendings = [] }
 
 -- the lane is proved, and a job that waits for it no longer does
 abbrev pub job_probed : Priority → Option Stage → Option Stage
@@ -127,12 +128,24 @@ piece_by_reply (Some (response.UploadNext piece)) expected next copy f m =
     piece_came expected next piece copy m
 piece_by_reply _ expected next copy f m = freed f m
 
+-- the reply that says how many rows there are
+abbrev pub alarms_by : Option Response → Frame → Manager → Manager
+alarms_by (Some (response.Alarms count)) f m = audit_begun count m
+alarms_by _ f m = freed f m
+
+-- the reply with the next row
+abbrev pub row_by_reply : Option Response → (expected next : ℕ) → Frame → Manager → Manager
+row_by_reply (Some (response.AlarmsNext row)) expected next f m = row_came expected next row m
+row_by_reply _ expected next f m = freed f m
+
 -- the reply that the job waits for
 abbrev pub job_by : Option Stage → Option Response → Frame → Manager → Manager
 job_by None r f m = freed f m
 job_by (Some (Probing high low)) r f m = freed f m
 job_by (Some Asking) r f m = upload_by r f m
 job_by (Some (Gathering expected next copy)) r f m = piece_by_reply r expected next copy f m
+job_by (Some AskingAlarms) r f m = alarms_by r f m
+job_by (Some (GatheringRows expected next)) r f m = row_by_reply r expected next f m
 
 abbrev pub job_taken : Priority → Frame → Manager → Outcome
 job_taken lane f m = with_taken lane (job_by m.job (response_of f) f m)
@@ -147,10 +160,17 @@ taken_as purpose.Job lane c f m = job_taken lane f m
 abbrev pub packet_dropped : Manager → Outcome
 packet_dropped m = sends_nothing (with_report report.Dropped m)
 
--- The outstanding command is answered, and its lane is free; then the job goes on. Nothing else is taken.
+-- what answers nothing is dropped, but for a notice
+abbrev pub not_taken : Result Message ContentsFault → Frame → Manager → Outcome
+not_taken (Ok (Told tci entity notice)) f m = notice_came entity notice f m
+not_taken (Ok (Asked tci entity r)) f m = packet_dropped m
+not_taken (Ok (Answered tci entity r)) f m = packet_dropped m
+not_taken (Err fault) f m = packet_dropped m
+
+-- The outstanding command is answered, and its lane is free; then the job goes on. Beside replies notices are taken.
 abbrev pub take_if : Bool → Option Waiting → Priority → Frame → Manager → Outcome
-take_if false o lane f m = packet_dropped m
-take_if true None lane f m = packet_dropped m
+take_if false o lane f m = not_taken (message_of f) f m
+take_if true None lane f m = not_taken (message_of f) f m
 take_if true (Some w) lane f m =
     and_then
     (taken_as w.command.purpose lane w.command f (with_lane lane (lane_reply f (lane_in lane m)).lane m))
@@ -164,7 +184,7 @@ abbrev pub for_frame : Option Frame → Manager → Outcome
 for_frame None m = packet_dropped m
 for_frame (Some f) m = frame_came (priority_of f.tci) f m
 
--- a packet that comes: one that isn't exactly one frame is no reply
+-- a packet that comes: one that isn't exactly one frame is neither a reply nor a notice
 unfoldable pub after_packet : List ℕ → Manager → Outcome
 after_packet bytes m = for_frame (packet_frame bytes) m
 
@@ -172,7 +192,7 @@ after_packet bytes m = for_frame (packet_frame bytes) m
 
 -- after a give-up a job that waited for the lane has failed; without one a change may have been lost
 abbrev pub loss_seen : (waits changes : Bool) → (tci : ℕ) → Manager → Manager
-loss_seen true changes tci m = resync_failed (reason.GaveUp tci) m
+loss_seen true changes tci m = job_lost m.job tci m
 loss_seen false true tci m = leave_step m
 loss_seen false false tci m = m
 
@@ -183,6 +203,7 @@ lane_ticked Repeat lane o l m =
     record {
       manager = with_lane lane l m;
       taken = [];
+      noticed = [];
       sendings =
           record {
             lane = lane;

@@ -1,19 +1,19 @@
--- What is asked of the manager: probes, submissions, checks and resynchronisations, and when each is refused.
+-- What is asked of the manager: probes, submissions, checks, resynchronisations and audits, and when each is refused.
 use Rattle.std.specs.Prelude.{Bool, true, false, if◌then◌else◌, List, [], ◌∷◌, Option, Some, None}
 use Rattle.omci_types.specs.declared.EntityId.{EntityId}
 use Rattle.omci_types.specs.declared.Priority.{Priority}
 use Rattle.omci_types.specs.declared.Priority.TheVariants.{Low, High}
 use Rattle.message_spec.specs.declared.Request.{Request}
 use Rattle.message_spec.specs.declared.Request.TheVariants as request
-use Rattle.lane_spec.specs.Command.{probe_command, check_command, ask, is_changing}
+use Rattle.lane_spec.specs.Command.{sync_entity, probe_command, check_command, job_command, ask, is_changing}
 use Rattle.lane_spec.specs.Lane.{Waiting}
 use Rattle.manager_spec.specs.declared.Phase.{Phase}
 use Rattle.manager_spec.specs.declared.Phase.TheVariants as phase
-use Rattle.manager_spec.specs.declared.Job.TheVariants as job
 use Rattle.manager_spec.specs.declared.Refusal.{Refusal}
 use Rattle.manager_spec.specs.declared.Refusal.TheVariants.{Unproven, Occupied, OutOfStep, JobRunning, ChangeOutstanding}
-use Rattle.manager_spec.specs.Manager.{Stage, Probing, Manager, Outcome, lane_in, other_lane, leave_step, sends_nothing, and_then, command_sent}
+use Rattle.manager_spec.specs.Manager.{Stage, Probing, AskingAlarms, Manager, Outcome, lane_in, other_lane, leave_step, sends_nothing, and_then, command_sent}
 use Rattle.manager_spec.specs.Resync.{with_job}
+use Rattle.manager_spec.specs.Jobs.{job_of}
 
 -- ---- refusals
 
@@ -58,7 +58,7 @@ out_of_step needs m = if needs then unless_in_step m.phase else None
 
 abbrev pub running : Option Stage → Option Refusal
 running None = None
-running (Some stage) = Some (JobRunning job.Resync)
+running (Some stage) = Some (JobRunning (job_of stage))
 
 -- a job runs
 abbrev pub job_running : Manager → Option Refusal
@@ -174,3 +174,16 @@ resync_begun m =
 
 unfoldable pub after_resync : Manager → Submission
 after_resync m = unless_refused (resync_refusal m) (resync_begun m) m
+
+-- ---- an audit of the alarms
+
+abbrev pub audit_refusal : Manager → Option Refusal
+audit_refusal m = first_refusal (unproven Low m ∷ occupied Low m ∷ job_running m ∷ [])
+
+-- all of the unit's alarms are asked for, whatever the mode of reporting
+abbrev pub audit_asked : Manager → Outcome
+audit_asked m =
+    command_sent true Low (job_command sync_entity (request.Alarms 0)) (with_job (Some AskingAlarms) m)
+
+unfoldable pub after_audit : Manager → Submission
+after_audit m = unless_refused (audit_refusal m) (audit_asked m) m

@@ -20,6 +20,8 @@ pub enum Phase {
 pub enum Job {
     /// It uploads the unit's database, and makes it its copy.
     Resync,
+    /// It reads all of the unit's alarms into its table.
+    Audit,
 }
 
 /// Why a resynchronisation failed.
@@ -35,6 +37,21 @@ pub enum ResyncReason {
     Repeated { entity: EntityId, attribute: u8 },
     /// No piece gave the unit's counter.
     Missing,
+}
+
+/// Why an audit failed. The table is unaudited.
+#[derive(Clone, Copy, Debug, PartialEq, Eq)]
+pub enum AuditReason {
+    /// A command that it waited for was given up.
+    GaveUp { tci: u16 },
+    /// A row was all zeros: the unit has put no alarms by, or has no such row of them.
+    Empty,
+    /// An earlier row was of this entity.
+    Repeated { entity: EntityId },
+    /// A notice came with another number than the wanted one: one was lost.
+    Gap { want: u8, have: u8 },
+    /// A notice came, and no further one may wait for the end of the audit.
+    Overflow,
 }
 
 /// Why a command was not submitted. Nothing was sent, and nothing has changed. They are tested in this order.
@@ -75,6 +92,22 @@ pub enum Report {
     ResyncFailed { reason: ResyncReason },
     /// The reply to a check came: the unit's counter, and the copy's.
     Checked { given: u8, expected: u8 },
-    /// A packet came that is no reply to what is outstanding.
+    /// An audit has ended: so many entities of the unit have an alarm.
+    Audited { rows: u32 },
+    /// An audit has failed.
+    AuditFailed { reason: AuditReason },
+    /// An alarm notice came, and is in the table or will be at the audit's end.
+    AlarmTaken { number: u8 },
+    /// The alarm notice that was taken last came again.
+    AlarmRepeat { number: u8 },
+    /// An alarm notice came with another number than the wanted one, and the table is no longer audited.
+    AlarmGap { want: u8, have: u8 },
+    /// An alarm notice came that can't wait, and the table is no longer audited.
+    AlarmOverflow { number: u8 },
+    /// An alarm notice came, and the table isn't audited.
+    AlarmUnaudited { number: u8 },
+    /// The unit tells that the value of an attribute has changed. The copy stays as it is.
+    Change { notice: Frame },
+    /// A packet came that is neither a reply to what is outstanding nor a notice.
     Dropped,
 }

@@ -1,8 +1,10 @@
 //! A manager, what it sent last, and the unit's replies as they are made by hand.
 
 pub use class_spec::ONU_DATA;
-use olt_manager::{Manager, Phase, Report, ResyncReason};
-use omci_contents::{Message, Request, Response, has_valid_window, read_message, write_message};
+use olt_manager::{AuditReason, Manager, Phase, Report, ResyncReason};
+use omci_contents::{
+    Message, Notice, Request, Response, has_valid_window, read_message, write_message,
+};
 use omci_core::{Code, EntityId, NoMemory, Packets, Priority};
 use omci_frames::{encode, packet_frame};
 use std::alloc::Global;
@@ -39,6 +41,30 @@ pub fn counter_piece(counter: u8) -> [u8; 32] {
     piece(2, 0, 0x8000, &[counter])
 }
 
+/// A bitmap whose first byte is this, and every further one zero.
+pub fn bitmap(first: u8) -> [u8; 28] {
+    let mut bitmap = [0; 28];
+    bitmap[0] = first;
+    bitmap
+}
+
+/// The row of an instance of class 11 whose bitmap has this first byte.
+pub fn row(instance: u8, first: u8) -> [u8; 32] {
+    let mut row = [0; 32];
+    row[1] = 11;
+    row[3] = instance;
+    row[4] = first;
+    row
+}
+
+/// The notice of alarms whose bitmap has this first byte.
+pub fn alarm(first: u8, number: u8) -> Notice {
+    Notice::Alarm {
+        bitmap: bitmap(first),
+        number,
+    }
+}
+
 /// The answer to a get of the counter.
 pub fn counter_answer(code: Code, counter: u8) -> Response {
     let mut values = [0; 25];
@@ -61,16 +87,16 @@ pub struct Harness {
 
 impl Harness {
     /// A manager whose lanes draw 1 next.
-    pub fn new(alloc: Global) -> Harness {
-        Harness {
-            manager: Manager::start(alloc, 1, 1),
+    pub fn new(alloc: Global) -> Result<Harness, NoMemory> {
+        Ok(Harness {
+            manager: Manager::start(alloc, 1, 1)?,
             out: Packets::new(alloc),
-        }
+        })
     }
 
     /// A manager that begins a resynchronisation, and for which the unit answers both probes.
     pub fn probed(alloc: Global) -> Result<Harness, NoMemory> {
-        let mut olt = Harness::new(alloc);
+        let mut olt = Harness::new(alloc)?;
         let _begun = olt.manager.resync(&mut olt.out);
         olt.answer(0x8001, ONU_DATA, counter_answer(Code::SUCCESS, 0))?;
         olt.answer(1, ONU_DATA, counter_answer(Code::SUCCESS, 0))?;
@@ -100,6 +126,23 @@ impl Harness {
         Ok(olt)
     }
 
+    /// A manager that begins an audit, for which the unit announces so many rows and gives these.
+    /// The lane's proof is no longer among its reports.
+    pub fn audited(alloc: Global, count: u16, rows: &[[u8; 32]]) -> Result<Harness, NoMemory> {
+        let mut olt = Harness::new(alloc)?;
+        let _probed = olt.manager.probe(Priority::Low, &mut olt.out);
+        olt.answer(1, ONU_DATA, counter_answer(Code::SUCCESS, 0))?;
+        let _proved = olt.manager.report();
+        let _begun = olt.manager.audit(&mut olt.out);
+        olt.answer(2, ONU_DATA, Response::Alarms { count })?;
+        let mut tci = 3u16;
+        for row in rows {
+            olt.answer(tci, ONU_DATA, Response::AlarmsNext { row: *row })?;
+            tci = tci.wrapping_add(1);
+        }
+        Ok(olt)
+    }
+
     /// The unit answers under this TCI.
     pub fn answer(
         &mut self,
@@ -107,14 +150,27 @@ impl Harness {
         entity: EntityId,
         response: Response,
     ) -> Result<(), NoMemory> {
-        let message = Message::Answered {
+        self.take(&Message::Answered {
             tci,
             entity,
             response,
-        };
+        })
+    }
+
+    /// The unit gives a notice.
+    pub fn tell(&mut self, entity: EntityId, notice: Notice) -> Result<(), NoMemory> {
+        self.take(&Message::Told {
+            tci: 0,
+            entity,
+            notice,
+        })
+    }
+
+    /// The manager takes a message of the unit.
+    pub fn take(&mut self, message: &Message) -> Result<(), NoMemory> {
         let mut bytes = [0; 48];
-        if has_valid_window(&message) {
-            encode(&write_message(&message), &mut bytes);
+        if has_valid_window(message) {
+            encode(&write_message(message), &mut bytes);
         }
         self.out.clear();
         self.manager.packet(&bytes, &mut self.out)
@@ -161,6 +217,24 @@ impl Harness {
             && self.manager.phase() == Phase::Out
             && self.manager.job().is_none()
             && self.manager.copy().is_none()
+    }
+
+    /// Whether exactly an audit's failure for this reason is reported, and nothing is sent after
+    /// it.
+    pub fn has_failed_audit(&mut self, reason: AuditReason) -> bool {
+        self.reports(&[Report::AuditFailed { reason }])
+            && self.out.is_empty()
+            && self.manager.job().is_none()
+    }
+
+    /// The only entity in the table of alarms, with the first byte of its bitmap.
+    pub fn only_alarm(&self) -> Option<(EntityId, u8)> {
+        let table = self.manager.alarms();
+        if table.len() != 1 {
+            return None;
+        }
+        let (entity, bitmap) = table.entry(0);
+        Some((entity, bitmap[0]))
     }
 
     /// The counter of the copy, and how many entities it has.

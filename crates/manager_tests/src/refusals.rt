@@ -10,7 +10,7 @@ const CREATE: Request = Request::Create { values: [0; 32] };
 
 #[test]
 fn a_lane_is_proved_and_free_first(rt: HostRuntime) -> Result<(), Fail> {
-    let mut olt = Harness::new(rt.alloc());
+    let mut olt = Harness::new(rt.alloc())?;
     let unproven = Err(Refusal::Unproven {
         lane: Priority::Low,
     });
@@ -52,7 +52,7 @@ fn a_lane_is_proved_and_free_first(rt: HostRuntime) -> Result<(), Fail> {
 
 #[test]
 fn a_get_in_the_high_lane_goes_beside_a_job(rt: HostRuntime) -> Result<(), Fail> {
-    let mut olt = Harness::new(rt.alloc());
+    let mut olt = Harness::new(rt.alloc())?;
     let _begun = olt.manager.resync(&mut olt.out);
     olt.answer(0x8001, ONU_DATA, counter_answer(Code::SUCCESS, 0))?;
     let running = Err(Refusal::JobRunning { job: Job::Resync });

@@ -10,7 +10,7 @@ use std::test::Fail;
 
 #[test]
 fn both_probes_come_before_the_upload(rt: HostRuntime) -> Result<(), Fail> {
-    let mut olt = Harness::new(rt.alloc());
+    let mut olt = Harness::new(rt.alloc())?;
     assert!(rt; olt.manager.idle() && olt.copy().is_none());
     assert_eq!(rt; olt.manager.resync(&mut olt.out), Ok(()));
     assert!(rt; olt.out.len() == 2);

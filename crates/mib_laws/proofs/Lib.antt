@@ -1,3 +1,4 @@
 pub mod Others
 pub mod Counting
 pub mod UnitEntities
+pub mod Made

@@ -14,6 +14,7 @@ ghost use Rattle.mib_spec.specs.Database.{with_counter_grown, with_software, cou
 ghost use Rattle.mib_spec.specs.Database.{has_unit_entities, first};
 ghost use Rattle.mib_spec.specs.Requests.{create_outcome, delete_outcome, set_outcome, get_outcome};
 ghost use Rattle.mib_spec.specs.Requests.{reset, sense_outcome};
+ghost use Rattle.mib_laws.specs.Made.{HoldsOnlyMade};
 ghost use Rattle.mib_laws.specs.Counted.{IsCounted, revalue};
 ghost use Rattle.mib_laws.specs.Rows.{size_of, place_of_third, one_image, with_filter, after_sets};
 
@@ -68,6 +69,25 @@ pub fn unit_entities_stay()
     ensures software { (software : Software) (database : Database)
         → has_unit_entities database ≡ true
         → has_unit_entities (with_software software database) ≡ true }
+{}
+
+/// Of the classes whose instances the unit makes, the entities that it makes at its start are there
+/// and no others, at first and after each request.
+pub fn no_others_come()
+    ensures first { (software : Software) → HoldsOnlyMade (first software) }
+    ensures create { (one : EntityId) (given : List ℕ) (database : Database)
+        → HoldsOnlyMade database → HoldsOnlyMade (create_outcome one given database).1 }
+    ensures delete { (one : EntityId) (database : Database)
+        → HoldsOnlyMade database → HoldsOnlyMade (delete_outcome one database).1 }
+    ensures set { (one : EntityId) (mask : ℕ) (given : List ℕ) (database : Database)
+        → HoldsOnlyMade database → HoldsOnlyMade (set_outcome one mask given database).database }
+    ensures reset { (database : Database) → HoldsOnlyMade (reset database) }
+    ensures sense { (one : EntityId) (number : ℕ) (value : List ℕ) (database : Database)
+        → HoldsOnlyMade database → HoldsOnlyMade (sense_outcome one number value database).1 }
+    ensures grown { (database : Database)
+        → HoldsOnlyMade database → HoldsOnlyMade (with_counter_grown database) }
+    ensures software { (software : Software) (database : Database)
+        → HoldsOnlyMade database → HoldsOnlyMade (with_software software database) }
 {}
 
 /// Rows of the profile: each class's number, how many attributes it has, and their bytes together;

@@ -1,8 +1,9 @@
 -- What each request does to the database (ITU-T G.988, clause 11.2.5 and annex A, in this profile):
 -- its conditions in order, then its effect.
-use Rattle.std.specs.Prelude.{ℕ, ◌-◌, ◌==◌, ◌&&◌, ◌||◌, not, Bool, true, false, nat_lt, nat_le, List, [], ◌∷◌, ◌++◌, length, take, drop, replicate, if◌then◌else◌, is_some, bytes_eq}
+use Rattle.std.specs.Prelude.{ℕ, ◌==◌, ◌&&◌, ◌||◌, not, Bool, true, false, nat_lt, nat_le, List, [], ◌∷◌, ◌++◌, length, take, drop, replicate, if◌then◌else◌, is_some, bytes_eq}
 use Rattle.std.specs.Option.{option_map_or}
 use Rattle.omci_types.specs.declared.EntityId.{EntityId}
+use Rattle.frame_spec.specs.Widths.{filled}
 use Rattle.omci_types.specs.declared.TheConstants.Code.{SUCCESS, PROCESSING_ERROR, NOT_SUPPORTED, PARAMETER_ERROR, UNKNOWN_CLASS, UNKNOWN_INSTANCE, INSTANCE_EXISTS, ATTRIBUTES_FAILED}
 use Rattle.class_spec.specs.declared.Maker.TheVariants.{Manager as by_manager}
 use Rattle.class_spec.specs.declared.TheConstants.{ONU_DATA, GET_ROOM}
@@ -126,10 +127,6 @@ abbrev pub named_values : ℕ → Values → List ℕ
 named_values mask [] = []
 named_values mask (one ∷ rest) = if has mask one.0 then one.1 ++ named_values mask rest else named_values mask rest
 
--- the bytes, and zeros up to the room
-abbrev pub with_zeros : ℕ → List ℕ → List ℕ
-with_zeros room bytes = bytes ++ replicate (room - length bytes) 0
-
 unfoldable pub get_code : ℕ → EntityId → ℕ → Database → ℕ
 get_code room one mask database = first_code (
     (not (is_class one.class), UNKNOWN_CLASS.0) ∷
@@ -157,7 +154,7 @@ get_outcome_in room one mask database =
     record {
       code = code;
       mask = if is_answered code then of_class known_mask one.class mask else 0;
-      values = with_zeros room (if is_answered code then named_values mask (values_of one database) else []);
+      values = filled room (if is_answered code then named_values mask (values_of one database) else []);
       unsupported = if code == ATTRIBUTES_FAILED.0 then of_class unknown_mask one.class mask else 0;
     }
 

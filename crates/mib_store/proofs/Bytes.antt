@@ -6,7 +6,7 @@ use Rattle.class_spec.specs.Classes.{Attribute}
 use Rattle.class_spec.specs.Masks.{width_where}
 use Rattle.entity_classes.specs.Rule.{whole_width}
 use Rattle.omci_attributes.proofs.Sums.{none_left, width-step}
-use Rattle.mib_spec.specs.Requests.{with_zeros}
+use Rattle.frame_spec.specs.Widths.{filled}
 use Rattle.mib_store.proofs.Counter.{drop_zeros}
 use Rattle.mib_store.specs.declared.layout.Step.{Step}
 use Rattle.mib_store.specs.Layout.{chosen_bytes, with_chosen}
@@ -147,7 +147,7 @@ module _ (passes : Attribute → Bool) (attributes : List Attribute) (n : ℕ) (
             subst (λ k. drop k after ≡ replicate (25 - k) 0) put_is (ap (λ x. drop to x) (puts.off on) ∙ zeros)
 
 -- the end of each loop
-pub gathered_end : (passes : Attribute → Bool) (attributes : List Attribute) (n to : ℕ) (into rest whole : List ℕ) → length attributes ≤ n → length into ≡ 25 → to ≤ 25 → take to into ++ chosen_bytes passes (drop n attributes) rest ≡ whole → drop to into ≡ replicate (25 - to) 0 → into ≡ with_zeros 25 whole
+pub gathered_end : (passes : Attribute → Bool) (attributes : List Attribute) (n to : ℕ) (into rest whole : List ℕ) → length attributes ≤ n → length into ≡ 25 → to ≤ 25 → take to into ++ chosen_bytes passes (drop n attributes) rest ≡ whole → drop to into ≡ replicate (25 - to) 0 → into ≡ filled 25 whole
 gathered_end passes attributes n to into rest whole le wide small is zeros =
     let front : take to into ≡ whole = sym (append-nil (take to into)) ∙ ap (λ (l : List Attribute). take to into ++ chosen_bytes passes l rest) (sym (none_left attributes n le)) ∙ is in
     let len : to ≡ length whole = sym (length-take-le to into (omega arith)) ∙ ap length front in

@@ -5,6 +5,7 @@ use Rattle.std.specs.Option.{option_map_or}
 use Rattle.std.proofs.lemmas.List.{take_at}
 use Rattle.std.proofs.lemmas.Bool.Decides.{nat_tests}
 use Rattle.omci_types.specs.declared.EntityId.{EntityId}
+use Rattle.frame_spec.specs.Widths.{filled}
 use Rattle.class_spec.specs.declared.Maker.TheVariants.{Manager as by_manager}
 use Rattle.class_spec.specs.Classes.{Row, Attribute, class_row, attribute_in}
 use Rattle.class_spec.specs.Masks.{known_mask, unknown_mask, fixed_mask, width_where}
@@ -13,7 +14,7 @@ use Rattle.omci_attributes.specs.declared.mask.Mask.{Mask}
 use Rattle.mib_spec.specs.declared.Sensed.{Sensed}
 use Rattle.mib_spec.specs.declared.Sensed.TheVariants.{NotAllowed, Same, Changed}
 use Rattle.mib_spec.specs.Database.{Database, Values, Managed, with_entity, without_entity, with_values, values_of, value_at, with_value, with_counter_grown}
-use Rattle.mib_spec.specs.Requests.{unless_refused, create_outcome, create_code, new_entity, create_values, delete_outcome, delete_code, set_outcome, set_code, set_effect, is_counter_set, set_values, of_class, get_outcome_in, get_code, named_values, with_zeros, is_answered, sense_outcome, may_sense, is_sensed}
+use Rattle.mib_spec.specs.Requests.{unless_refused, create_outcome, create_code, new_entity, create_values, delete_outcome, delete_code, set_outcome, set_code, set_effect, is_counter_set, set_values, of_class, get_outcome_in, get_code, named_values, is_answered, sense_outcome, may_sense, is_sensed}
 use Rattle.mib_store.specs.declared.layout.Chosen.TheVariants.{Created, Named, Only}
 use Rattle.mib_store.specs.Layout.{picks, cut, chosen_bytes, with_chosen}
 use Rattle.mib_store.specs.Entries.{values_in, maker_of}
@@ -124,9 +125,9 @@ stored_in one mask r given bytes after database row rule wide room before is =
     ∙ ap (set_values mask.0 given) (sym (values_in_row one.class r bytes row) ∙ before)
 
 -- what the code gathers is what a get answers
-pub named_in : (one : EntityId) (mask : Mask) (r : Row) (bytes values : List ℕ) (database : Database) → class_row one.class ≡ Some r → values_in one.class bytes ≡ values_of one database → values ≡ with_zeros 25 (chosen_bytes (picks (Named mask)) r.attributes bytes) → values ≡ with_zeros 25 (named_values mask.0 (values_of one database))
+pub named_in : (one : EntityId) (mask : Mask) (r : Row) (bytes values : List ℕ) (database : Database) → class_row one.class ≡ Some r → values_in one.class bytes ≡ values_of one database → values ≡ filled 25 (chosen_bytes (picks (Named mask)) r.attributes bytes) → values ≡ filled 25 (named_values mask.0 (values_of one database))
 named_in one mask r bytes values database row before is =
-    is ∙ ap (with_zeros 25) (named_is mask r.attributes bytes ∙ ap (named_values mask.0) (sym (values_in_row one.class r bytes row) ∙ before))
+    is ∙ ap (filled 25) (named_is mask r.attributes bytes ∙ ap (named_values mask.0) (sym (values_in_row one.class r bytes row) ∙ before))
 
 module _ (one : EntityId) (mask : ℕ) (database : Database) where
   pub got_code : (code : ℕ) → get_code 25 one mask database ≡ code → code ≡ (get_outcome_in 25 one mask database).code
@@ -144,7 +145,7 @@ module _ (one : EntityId) (mask : ℕ) (database : Database) where
   pub got_no_values : (code : ℕ) → get_code 25 one mask database ≡ code → (code == 0) ≡ false → (code == 9) ≡ false → blank 25 ≡ (get_outcome_in 25 one mask database).values
   unfolding get_outcome_in
   got_no_values code is zero nine =
-      sym (ap (λ k. with_zeros 25 (cond (is_answered k) (named_values mask (values_of one database)) [])) is ∙ ap (λ b. with_zeros 25 (cond b (named_values mask (values_of one database)) [])) (unanswered code zero nine))
+      sym (ap (λ k. filled 25 (cond (is_answered k) (named_values mask (values_of one database)) [])) is ∙ ap (λ b. filled 25 (cond b (named_values mask (values_of one database)) [])) (unanswered code zero nine))
 
   pub got_no_unsupported : (code : ℕ) → get_code 25 one mask database ≡ code → (code == 9) ≡ false → 0 ≡ (get_outcome_in 25 one mask database).unsupported
   unfolding get_outcome_in
@@ -159,10 +160,10 @@ module _ (one : EntityId) (mask : ℕ) (database : Database) where
   got_mask code is answered r row =
       sym (ap (λ k. cond (is_answered k) (of_class known_mask one.class mask) 0) is ∙ ap (λ b. cond b (of_class known_mask one.class mask) 0) answered ∙ ap (λ o. option_map_or (λ (x : Row). known_mask x mask) o 0) row)
 
-  pub got_values : (code : ℕ) → get_code 25 one mask database ≡ code → is_answered code ≡ true → with_zeros 25 (named_values mask (values_of one database)) ≡ (get_outcome_in 25 one mask database).values
+  pub got_values : (code : ℕ) → get_code 25 one mask database ≡ code → is_answered code ≡ true → filled 25 (named_values mask (values_of one database)) ≡ (get_outcome_in 25 one mask database).values
   unfolding get_outcome_in
   got_values code is answered =
-      sym (ap (λ k. with_zeros 25 (cond (is_answered k) (named_values mask (values_of one database)) [])) is ∙ ap (λ b. with_zeros 25 (cond b (named_values mask (values_of one database)) [])) answered)
+      sym (ap (λ k. filled 25 (cond (is_answered k) (named_values mask (values_of one database)) [])) is ∙ ap (λ b. filled 25 (cond b (named_values mask (values_of one database)) [])) answered)
 
 module _ (one : EntityId) (number : ℕ) (value : List ℕ) (database : Database) where
   sensed_by : Bool → Bool → Sensed × Database
@@ -186,7 +187,7 @@ module _ (one : EntityId) (number : ℕ) (value : List ℕ) (database : Database
     held_values = sym (values_in_row one.class r bytes row) ∙ before
 
     -- the code compares the value that is held
-    pub is_sensed_by : (held : List ℕ) → held ≡ with_zeros 25 (chosen_bytes (picks (Only number)) r.attributes bytes) → bytes_eq (take (length value) held) value ≡ is_sensed one number value database
+    pub is_sensed_by : (held : List ℕ) → held ≡ filled 25 (chosen_bytes (picks (Only number)) r.attributes bytes) → bytes_eq (take (length value) held) value ≡ is_sensed one number value database
     unfolding is_sensed
     is_sensed_by held gathered =
         let v : List ℕ = chosen_bytes (picks (Only number)) r.attributes bytes in

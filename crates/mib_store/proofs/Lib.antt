@@ -6,6 +6,4 @@ pub mod Codes
 pub mod Values
 pub mod Effects
 pub mod Start
-pub mod Storage
-pub mod Closures
 pub mod Kept

@@ -1,25 +1,12 @@
--- The order of entities, and tables in that order.
-use Rattle.std.proofs.Common.{◌≡◌, ℕ, zero, suc, ◌<◌, ◌≤◌, List, [], ◌∷◌, length, Ordering, refl, sym, ap, subst, ◌∙◌, inl, inr, arith}
+-- Items in ascending order of their entities, and a search among them.
+use Rattle.std.proofs.Common.{◌≡◌, ℕ, zero, suc, ◌+◌, ◌<◌, ◌≤◌, List, [], ◌∷◌, length, map, get_or, ap, subst, ◌∙◌, inl, inr, arith}
 use Rattle.std.specs.declared.cmp.Ordering.TheVariants.{Less, Equal, Greater}
-use Rattle.std.specs.Ordering.{nat_cmp, ordering_reverse, ordering_index}
-use Rattle.std.specs.Cmp.{IsTotalOrder, nat_cmp_total}
-use Rattle.std.specs.List.Sorted.{IsNonDecreasingBy}
-use Rattle.std.proofs.lemmas.Cmp.{on_total, then_total}
-use Rattle.std.proofs.lemmas.Map.Lookups.{exact_pairs, exact_unsigned}
-use Rattle.std.proofs.lemmas.List.Sorted.{IsNonDecreasingBy-from_default}
+use Rattle.std.specs.Ordering.{ordering_reverse}
 use Rattle.std.proofs.lemmas.Bool.{cases_lt}
 use Rattle.omci_types.specs.declared.EntityId.{EntityId}
 use Rattle.mib_spec.specs.Database.{entity_cmp}
-use Rattle.mib_store.specs.declared.entry.Entry.{Entry}
-use Rattle.mib_store.specs.Entries.{keys_of, IsBefore, IsAscending, entry_at, no_entry}
-
-pub entity_total : IsTotalOrder entity_cmp
-entity_total = then_total (on_total (λ (e : EntityId). e.class) nat_cmp_total) (on_total (λ (e : EntityId). e.instance) nat_cmp_total)
-
--- entities that compare alike are one
-pub entity_exact : (a b : EntityId) → entity_cmp a b ≡ Equal → a ≡ b
-entity_exact a b h =
-    ap (λ (p : ℕ × ℕ). let e : EntityId = record { class = p.0; instance = p.1 } in e) (exact_pairs nat_cmp nat_cmp exact_unsigned exact_unsigned (a.class, a.instance) (b.class, b.instance) h)
+use Rattle.mib_laws.proofs.Others.{entity_total, entity_exact}
+use Rattle.mib_store.specs.Entries.{IsBefore, IsAscending}
 
 pub turned : (a b : EntityId) → entity_cmp a b ≡ Less → entity_cmp b a ≡ Greater
 turned a b h = entity_total.antisymm b a ∙ ap ordering_reverse h
@@ -27,34 +14,72 @@ turned a b h = entity_total.antisymm b a ∙ ap ordering_reverse h
 pub turned_back : (a b : EntityId) → entity_cmp a b ≡ Greater → entity_cmp b a ≡ Less
 turned_back a b h = entity_total.antisymm b a ∙ ap ordering_reverse h
 
--- an entity before all is before the one in each place
-is_before_at : (one : EntityId) (entries : List Entry) (j : ℕ) → IsBefore one (keys_of entries) → j < length entries → entity_cmp one (entry_at entries j).entity ≡ Less
-is_before_at one [] j h lt = absurd (omega arith)
-is_before_at one (e ∷ es) zero h lt = h.0
-is_before_at one (e ∷ es) (suc j) h lt = is_before_at one es j h.1 (omega arith)
+module _ {A : Type 0} (entity_of : A → EntityId) (none : A) where
+  -- the entity of the item in a place
+  abbrev pub there : List A → ℕ → EntityId
+  there items k = entity_of (get_or items k none)
 
-pub ascending_at : (entries : List Entry) (i j : ℕ) → IsAscending (keys_of entries) → i < j → j < length entries → entity_cmp (entry_at entries i).entity (entry_at entries j).entity ≡ Less
-ascending_at [] i j h lt in_range = absurd (omega arith)
-ascending_at (e ∷ es) i zero h lt in_range = absurd (omega arith)
-ascending_at (e ∷ es) zero (suc j) h lt in_range = is_before_at e.entity es j h.0 (omega arith)
-ascending_at (e ∷ es) (suc i) (suc j) h lt in_range = ascending_at es i j h.1 (omega arith) (omega arith)
+  -- an entity before all is before the one in each place
+  is_before_at : (one : EntityId) (items : List A) (j : ℕ) → IsBefore one (map entity_of items) → j < length items → entity_cmp one (there items j) ≡ Less
+  is_before_at one [] j h lt = absurd (omega arith)
+  is_before_at one (e ∷ es) zero h lt = h.0
+  is_before_at one (e ∷ es) (suc j) h lt = is_before_at one es j h.1 (omega arith)
 
-index_le : (r : Ordering) → ordering_index r ≤ 2
-index_le Less = omega arith
-index_le Equal = omega arith
-index_le Greater = omega arith
+  pub ascending_at : (items : List A) (i j : ℕ) → IsAscending (map entity_of items) → i < j → j < length items → entity_cmp (there items i) (there items j) ≡ Less
+  ascending_at [] i j h lt in_range = absurd (omega arith)
+  ascending_at (e ∷ es) i zero h lt in_range = absurd (omega arith)
+  ascending_at (e ∷ es) zero (suc j) h lt in_range = is_before_at (entity_of e) es j h.0 (omega arith)
+  ascending_at (e ∷ es) (suc i) (suc j) h lt in_range = ascending_at es i j h.1 (omega arith) (omega arith)
 
-rises_step : (a b q : EntityId) → entity_cmp a b ≡ Less → (r : Ordering) → entity_cmp b q ≡ r → ordering_index (entity_cmp a q) ≤ ordering_index r
-rises_step a b q h Less is = omega (arith, ap ordering_index (entity_total.trans a b q h is))
-rises_step a b q h Equal is =
-    let same : entity_cmp q a ≡ Greater = sym (entity_total.congr b q a is) ∙ turned a b h in
-    omega (arith, ap ordering_index (turned_back q a same))
-rises_step a b q h Greater is = index_le (entity_cmp a q)
+  -- how far a search has come: the entity is in none of the places before the low one or from the high
+  -- one on
+  pub record Narrows (items : List A) (q : EntityId) (low high : ℕ) : Type 0 where
+    pub ordered : low ≤ high
+    pub in_range : high ≤ length items
+    pub below : (k : ℕ) → k < low → entity_cmp (there items k) q ≡ Less
+    pub above : (k : ℕ) → high ≤ k → k < length items → entity_cmp (there items k) q ≡ Greater
 
--- the comparisons with an entity rise along the table, as a binary search asks
-pub rises : (entries : List Entry) (q : EntityId) → IsAscending (keys_of entries) → IsNonDecreasingBy (λ (e : Entry). ordering_index (entity_cmp e.entity q)) entries
-rises entries q h = IsNonDecreasingBy-from_default (λ (e : Entry). ordering_index (entity_cmp e.entity q)) entries no_entry (λ i j le in_range.
-    elim (cases_lt i j) as (λ _. ordering_index (entity_cmp (entry_at entries i).entity q) ≤ ordering_index (entity_cmp (entry_at entries j).entity q)) [
-      | inl lt ↦ rises_step (entry_at entries i).entity (entry_at entries j).entity q (ascending_at entries i j h lt in_range) _ refl
-      | inr ge ↦ let same : i ≡ j = omega arith in subst (λ k. ordering_index (entity_cmp (entry_at entries i).entity q) ≤ ordering_index (entity_cmp (entry_at entries k).entity q)) same (omega arith)
-    ])
+  pub narrows_all : (items : List A) (q : EntityId) (size : ℕ) → size ≡ length items → Narrows items q 0 size
+  narrows_all items q size is = record {
+    ordered = omega arith;
+    in_range = omega (arith, is);
+    below = λ k lt. absurd (omega (arith, lt));
+    above = λ k le lt. absurd (omega (arith, le, lt, is));
+  }
+
+  pub narrows_up : (items : List A) (q : EntityId) (low high middle : ℕ) → IsAscending (map entity_of items) → Narrows items q low high → low ≤ middle → middle < high → entity_cmp (there items middle) q ≡ Less → Narrows items q (middle + 1) high
+  narrows_up items q low high middle h n le lt less = record {
+    ordered = omega (arith, lt);
+    in_range = n.in_range;
+    below = λ k small. elim (cases_lt k middle) as (λ _. entity_cmp (there items k) q ≡ Less) [
+      | inl before ↦ entity_total.trans (there items k) (there items middle) q (ascending_at items k middle h before (omega (arith, lt, n.in_range))) less
+      | inr from ↦ let same : middle ≡ k = omega (arith, small, from) in subst (λ j. entity_cmp (there items j) q ≡ Less) same less
+    ];
+    above = n.above;
+  }
+
+  pub narrows_down : (items : List A) (q : EntityId) (low high middle : ℕ) → IsAscending (map entity_of items) → Narrows items q low high → low ≤ middle → middle < high → entity_cmp (there items middle) q ≡ Greater → Narrows items q low middle
+  narrows_down items q low high middle h n le lt more = record {
+    ordered = le;
+    in_range = omega (arith, lt, n.in_range);
+    below = n.below;
+    above = λ k from in_range. elim (cases_lt middle k) as (λ _. entity_cmp (there items k) q ≡ Greater) [
+      | inl after ↦ turned q (there items k) (entity_total.trans q (there items middle) (there items k) (turned_back (there items middle) q more) (ascending_at items middle k h after in_range))
+      | inr same_or ↦ let same : middle ≡ k = omega (arith, from, same_or) in subst (λ j. entity_cmp (there items j) q ≡ Greater) same more
+    ];
+  }
+
+  -- the search has found the entity
+  pub record Finds (items : List A) (q : EntityId) (at : ℕ) : Type 0 where
+    pub in_range : at < length items
+    pub here : there items at ≡ q
+    pub before : (k : ℕ) → k < at → entity_cmp (there items k) q ≡ Less
+
+  pub finds : (items : List A) (q : EntityId) (low high middle : ℕ) → IsAscending (map entity_of items) → Narrows items q low high → middle < high → entity_cmp (there items middle) q ≡ Equal → Finds items q middle
+  finds items q low high middle h n lt equal =
+      let here : there items middle ≡ q = entity_exact _ _ equal in
+      record {
+        in_range = omega (arith, lt, n.in_range);
+        here = here;
+        before = λ k before. subst (λ (x : EntityId). entity_cmp (there items k) x ≡ Less) here (ascending_at items k middle h before (omega (arith, lt, n.in_range)));
+      }

@@ -1,12 +1,11 @@
 -- What stands in a place of the table, and what an edit there does to the map.
-use Rattle.std.proofs.Common.{◌≡◌, ℕ, zero, suc, ◌+◌, ◌<◌, ◌≤◌, false, cond, List, [], ◌∷◌, length, set, Some, None, Result, Ok, Err, IfOk, IfErr, refl, sym, ap, subst, ◌∙◌, inl, inr, arith}
+use Rattle.std.proofs.Common.{◌≡◌, ℕ, zero, suc, ◌+◌, ◌<◌, ◌≤◌, false, cond, List, [], ◌∷◌, ◌++◌, length, take, set, Some, None, Result, Ok, Err, OnOk, refl, sym, ap, subst, ◌∙◌, inl, inr, arith}
 use Rattle.std.specs.List.{insert, remove}
-use Rattle.std.specs.List.Sorted.{IsSearchInRange, IsBinarySearchResult}
 use Rattle.std.specs.declared.cmp.Ordering.TheVariants.{Less, Equal, Greater}
 use Rattle.std.specs.Ordering.{is_eq, match_ordering}
 use Rattle.std.specs.Cmp.{tied_itself}
 use Rattle.std.specs.Option.{option_map_or}
-use Rattle.std.proofs.Math.Seq.{map-set_same}
+use Rattle.std.proofs.Math.Seq.{map-set_same, take-suc}
 use Rattle.std.specs.Map.{lookup, set_value, remove_entry}
 use Rattle.std.specs.BTreeMap.{insert_entry, is_at}
 use Rattle.std.proofs.lemmas.Bool.{cases_lt}
@@ -15,7 +14,8 @@ use Rattle.mib_spec.specs.Database.{Database, Managed, entity_cmp, managed_of, V
 use Rattle.mib_spec.specs.Requests.{is_unit_made}
 use Rattle.mib_store.specs.declared.entry.Entry.{Entry}
 use Rattle.mib_store.specs.Entries.{held_of, database_of, keys_of, maker_of, values_in, IsBefore, IsAscending, IsAt, IsGap, unit_made, Inserts, Removes, entry_at, no_entry}
-use Rattle.mib_store.proofs.Order.{entity_total, entity_exact, turned, turned_back, ascending_at, rises}
+use Rattle.mib_laws.proofs.Others.{entity_total}
+use Rattle.mib_store.proofs.Order.{turned, turned_back, Narrows, Finds}
 
 -- those before a place are less than the entity, as the index says
 abbrev pub Below : List Entry → EntityId → ℕ → Type 0
@@ -130,32 +130,45 @@ length_remove [] at lt = absurd (omega arith)
 length_remove (e ∷ es) zero lt = omega arith
 length_remove (e ∷ es) (suc at) lt = omega (arith, length_remove es at (omega arith))
 
--- what a binary search ends at
-pub record Searched (es : List Entry) (q : EntityId) (r : Result ℕ ℕ) : Type 0 where
-  pub found : IfOk r (IsAt es q)
-  pub absent : IfErr r (IsGap es q)
-
-pub searched : (es : List Entry) (q : EntityId) → IsAscending (keys_of es) → (r : Result ℕ ℕ) → IsSearchInRange r (length es) → IsBinarySearchResult (λ (e : Entry). entity_cmp e.entity q) es r → Searched es q r
+-- what a search ends at
+pub found_at : (es : List Entry) (q : EntityId) (at : ℕ) → Finds (λ (e : Entry). e.entity) no_entry es q at → IsAt es q at
 unfolding managed_of
-searched es q h (Ok at) in_range equal =
-    let here : (entry_at es at).entity ≡ q = entity_exact _ _ (equal no_entry) in
-    let below : Below es q at = λ k lt. subst (λ (x : EntityId). entity_cmp (entry_at es k).entity x ≡ Less) here (ascending_at es k at h lt in_range) in
-    record {
-      found = record {
-        in_range = in_range;
-        here = here;
-        before = below;
-        is_held = lookup_at es at q in_range below here ∙ ap (λ (k : EntityId). Some (let m : Managed = record { maker = maker_of k.class; values = values_in k.class (entry_at es at).values } in m)) here;
-      };
-      absent = tt;
-    }
-searched es q h (Err at) in_range parted =
-    let below : Below es q at = λ k lt. (parted (rises es q h)).0 k no_entry (omega arith) lt in
-    let above : Above es q at = λ k le lt. (parted (rises es q h)).1 k no_entry le lt in
-    record {
-      found = tt;
-      absent = record { in_range = in_range; before = below; after = above; not_held = none_in_gap es at q below above };
-    }
+found_at es q at f = record {
+  in_range = f.in_range;
+  here = f.here;
+  before = f.before;
+  is_held = lookup_at es at q f.in_range f.before f.here ∙ ap (λ (k : EntityId). Some (let m : Managed = record { maker = maker_of k.class; values = values_in k.class (entry_at es at).values } in m)) f.here;
+}
+
+pub gap_at : (es : List Entry) (q : EntityId) (low high : ℕ) → Narrows (λ (e : Entry). e.entity) no_entry es q low high → high ≤ low → IsGap es q low
+unfolding managed_of
+gap_at es q low high n le =
+    let above : Above es q low = λ k from lt. n.above k (omega (arith, from, n.ordered, le)) lt in
+    record { in_range = omega (arith, n.ordered, n.in_range); before = n.below; after = above; not_held = none_in_gap es low q n.below above }
+
+-- entries put in one after the other
+insert_end : (es : List Entry) (k : ℕ) (e : Entry) → k < length es → insert (take k es) k e ≡ take k es ++ e ∷ []
+insert_end es zero e lt = refl
+insert_end [] (suc k) e lt = absurd (omega arith)
+insert_end (x ∷ xs) (suc k) e lt = ap (λ (l : List Entry). x ∷ l) (insert_end xs k e (omega arith))
+
+set_end : (es : List Entry) (k : ℕ) (e : Entry) → k < length es → take (suc k) (set es k e) ≡ take k es ++ e ∷ []
+set_end [] k e lt = absurd (omega arith)
+set_end (x ∷ xs) zero e lt = refl
+set_end (x ∷ xs) (suc k) e lt = ap (λ (l : List Entry). x ∷ l) (set_end xs k e (omega arith))
+
+one_more : (es : List Entry) (k : ℕ) (e : Entry) → k < length es → e ≡ entry_at es k → take k es ++ e ∷ [] ≡ take (k + 1) es
+one_more es k e lt is =
+    let next : suc k ≡ k + 1 = omega arith in
+    ap (λ (x : Entry). take k es ++ x ∷ []) is ∙ sym (take-suc es k no_entry lt) ∙ ap (λ n. take n es) next
+
+pub filled_next : (list entries : List Entry) (at : ℕ) (e : Entry) → at < length entries → e ≡ entry_at entries at → list ≡ take at entries → insert list at e ≡ take (at + 1) entries
+filled_next list entries at e lt is so_far = ap (λ (l : List Entry). insert l at e) so_far ∙ insert_end entries at e lt ∙ one_more entries at e lt is
+
+pub written_next : (list entries : List Entry) (at : ℕ) (e : Entry) → at < length entries → at < length list → e ≡ entry_at entries at → take at list ≡ take at entries → take (at + 1) (set list at e) ≡ take (at + 1) entries
+written_next list entries at e lt lt' is so_far =
+    let next : at + 1 ≡ suc at = omega arith in
+    ap (λ n. take n (set list at e)) next ∙ set_end list at e lt' ∙ ap (λ (l : List Entry). l ++ e ∷ []) so_far ∙ one_more entries at e lt is
 
 pub inserts : (es : List Entry) (at : ℕ) (entry : Entry) → IsAscending (keys_of es) → IsGap es entry.entity at → Inserts es (insert es at entry) entry
 unfolding with_entity
@@ -165,6 +178,11 @@ inserts es at entry h gap = record {
   made = count_insert es at entry gap.in_range;
   count = length_insert es at entry gap.in_range;
 }
+
+pub inserts_as : {F : Type 0} (r : Result (Unit {0}) F) (inside es new : List Entry) (at : ℕ) (entry : Entry) → inside ≡ es → OnOk r (new ≡ insert inside at entry) → IsAscending (keys_of es) → IsGap es entry.entity at → OnOk r (Inserts es new entry)
+inserts_as (Err f) inside es new at entry same is h gap = tt
+inserts_as (Ok u) inside es new at entry same is h gap =
+    subst (λ (l : List Entry). Inserts es l entry) (sym (is ∙ ap (λ (l : List Entry). insert l at entry) same)) (inserts es at entry h gap)
 
 pub removes : (es : List Entry) (at : ℕ) (q : EntityId) → IsAscending (keys_of es) → IsAt es q at → Removes es (remove es at) q
 unfolding without_entity

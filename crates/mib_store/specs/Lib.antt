@@ -2,4 +2,3 @@ pub mod Layout
 pub mod Step
 pub mod Entries
 pub mod Admitted
-pub mod Storage

@@ -6,12 +6,6 @@ use omci_types::EntityId;
 /// The bytes of an entry's values.
 pub(crate) const ROOM: usize = WIDEST_CLASS;
 
-/// What stands in a place that no table has.
-pub(crate) const NO_ENTITY: EntityId = EntityId {
-    class: 0,
-    instance: 0,
-};
-
 /// An entity, and the values of its attributes one after the other in attribute order, with zeros
 /// after them.
 #[derive(Clone, Copy, Debug)]

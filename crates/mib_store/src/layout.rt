@@ -5,7 +5,7 @@ ghost use Rattle.std.specs.Prelude.{if◌then◌else◌};
 ghost use Rattle.class_spec.specs.Classes.{Attribute as Listed};
 ghost use Rattle.class_spec.specs.Masks.{width_where};
 ghost use Rattle.entity_classes.specs.Rule.{IsRow, attribute_of};
-ghost use Rattle.mib_spec.specs.Requests.{with_zeros};
+ghost use Rattle.frame_spec.specs.Widths.{filled};
 ghost use Rattle.mib_store.specs.Layout.{picks, chosen_bytes, with_chosen};
 ghost use Rattle.mib_store.specs.Step.{IsStep};
 
@@ -51,7 +51,7 @@ pub(crate) fn with_chosen(
 pub(crate) fn gather(class: &Class, chosen: Chosen, values: &[u8; ROOM]) -> [u8; GET_ROOM]
     requires { width_where (picks chosen) class.now.attributes ≤ GET_ROOM }
     ensures { result
-        ≡ with_zeros GET_ROOM (chosen_bytes (picks chosen) class.now.attributes values.now) }
+        ≡ filled GET_ROOM (chosen_bytes (picks chosen) class.now.attributes values.now) }
 {
     let mut into = [0; GET_ROOM];
     let mut from = 0;

@@ -6,10 +6,10 @@ mod admit;
 mod answers;
 mod entry;
 mod first;
-mod index;
 mod layout;
 mod mib;
 mod requests;
+mod search;
 mod table;
 
 pub use answers::{GetAnswer, SetAnswer};
@@ -17,3 +17,4 @@ pub use mib::Mib;
 pub use mib_spec::Sensed;
 pub use omci_attributes::Mask;
 pub use omci_core::NoMemory;
+pub use requests::is_counter_set;

@@ -140,7 +140,7 @@ fn settle(table: &mut Table, given: bool)
 }
 
 /// Whether a set gives the counter its value.
-fn is_counter_set(entity: EntityId, mask: Mask) -> bool
+pub fn is_counter_set(entity: EntityId, mask: Mask) -> bool
     ensures { result ≡ is_counter_set entity mask.0 }
 {
     entity == ONU_DATA && mask.has(1)

@@ -1,18 +1,18 @@
-//! The table: entries in the order in which they were made, and an index that has their places in
-//! ascending order of the entity. A create or a delete moves places of two bytes, and no entry.
+//! The table: entries that stay where they were put, in ascending order of the entity.
 
-ghost use Rattle.std.specs.Prelude.{◌≡◌, ◌<◌, ◌≤◌, ◌^◌, IfOk, IfErr, OnOk, OnErr, length};
+ghost use Rattle.std.specs.Prelude.{◌≡◌, ◌<◌, ◌≤◌, IfOk, IfErr, OnOk, OnErr, length};
 ghost use Rattle.mib_spec.specs.Database.{bump, counter, with_counter_grown, with_values};
 ghost use Rattle.mib_spec.specs.Database.{values_of};
 ghost use Rattle.mib_store.specs.Entries.{values_in, database_of, keys_of, IsAscending, IsAt};
 ghost use Rattle.mib_store.specs.Entries.{IsGap, entry_at, Inserts, Removes};
 
 use crate::entry::{Entry, ROOM};
-use crate::index::{find_in, lodge, move_to, move_to_end, write_in};
+use crate::search::{entry_in, find_in};
 use class_spec::ONU_DATA;
 use mib_spec::UNIT_ENTITIES;
 use omci_core::NoMemory;
 use omci_types::EntityId;
+use placed_list::PlacedList;
 use std::alloc::Global;
 use std::marker::Model;
 
@@ -20,42 +20,28 @@ use std::marker::Model;
 /// the entity. `Mib` holds it; `insert` alone takes memory.
 #[derive(Drop)]
 pub(crate) struct Table {
-    /// The entries, and between them those that were removed, in whose places the next ones go.
-    entries: Vec<Entry>,
-    /// Each place of an entry once: first those of the entries that are there, in ascending order
-    /// of the entity, then the free ones.
-    order: Vec<u16>,
-    /// How many entries are there.
-    count: usize,
+    entries: PlacedList<Entry>,
 }
 
 impl Model for Table {
-    ghost use Rattle.std.specs.Prelude.{List, take};
+    ghost use Rattle.std.specs.Prelude.{List};
     ghost use Rattle.mib_store.specs.declared.entry.Entry.{Entry};
-    ghost use Rattle.mib_store.specs.Storage.{in_order, IsIndex};
 
     ghost Value = { List Entry };
 
-    ghost view = { λ t. in_order t.entries.items (take t.count t.order.items) };
-
-    ghost invariant = { λ t. IsIndex t.entries.items t.order.items t.count };
+    ghost view = { λ t. t.entries };
 }
-
-/// The places of the first entries.
-const FIRST_ORDER: [u16; UNIT_ENTITIES] = [0, 1, 2, 3, 4, 5, 6, 7, 8, 9, 10];
 
 impl Table {
     /// A table of these entries, which stand in ascending order.
     pub(crate) fn of(alloc: Global, entries: &[Entry; UNIT_ENTITIES]) -> Result<Table, NoMemory>
         ensures { IfOk result (λ table. table ≡ entries.now) }
     {
-        let made = Vec::from_slice(alloc, entries)?;
-        let order = Vec::from_slice(alloc, &FIRST_ORDER)?;
-        Ok(Table {
-            entries: made,
-            order,
-            count: UNIT_ENTITIES,
-        })
+        let mut made = PlacedList::new(alloc);
+        for at in 0..UNIT_ENTITIES {
+            made.insert(at, entries[at])?;
+        }
+        Ok(Table { entries: made })
     }
 
     /// Puts these entries, which stand in ascending order, in place of all.
@@ -64,17 +50,14 @@ impl Table {
         ensures { self.new ≡ entries.now }
     {
         self.entries.truncate(UNIT_ENTITIES);
-        self.order.truncate(UNIT_ENTITIES);
-        self.count = UNIT_ENTITIES;
         overwrite(&mut self.entries, entries);
-        overwrite(&mut self.order, &FIRST_ORDER);
     }
 
     /// How many entries there are.
     pub(crate) fn len(&self) -> usize
         ensures { result ≡ length self.now }
     {
-        self.count
+        self.entries.len()
     }
 
     /// The place of the entity, or the place where it would go.
@@ -83,7 +66,7 @@ impl Table {
         ensures found { IfOk result (IsAt self.now entity) }
         ensures absent { IfErr result (IsGap self.now entity) }
     {
-        find_in(&self.entries, &self.order[..self.count], entity)
+        find_in(&self.entries, entity)
     }
 
     /// The entry in this place.
@@ -91,7 +74,7 @@ impl Table {
         requires { at < length self.now }
         ensures { result.now ≡ entry_at self.now at }
     {
-        &self.entries[self.order[at] as usize]
+        entry_in(&self.entries, at)
     }
 
     /// The values of the entry in this place.
@@ -109,44 +92,36 @@ impl Table {
             ≡ with_values entity (values_in entity.class values) (database_of self.old) }
         ensures keys { keys_of self.new ≡ keys_of self.old }
     {
-        write_in(
-            &mut self.entries,
-            &self.order[..self.count],
-            at,
-            Entry { entity, values },
-        );
+        self.entries.set(at, Entry { entity, values });
     }
 
     /// Puts an entry in its place.
     pub(crate) fn insert(&mut self, at: usize, entry: Entry) -> Result<(), NoMemory>
         requires gap { IsGap self.old entry.entity at }
         requires ascending { IsAscending (keys_of self.old) }
-        requires few { length self.old < 2 ^ 16 }
         ensures ok { OnOk result (Inserts self.old self.new entry) }
         ensures err { OnErr result (self.new ≡ self.old) }
     {
-        lodge(&mut self.entries, &mut self.order, self.count, entry)?;
-        move_to(&mut self.order, self.count, at);
-        self.count += 1;
-        Ok(())
+        self.entries.insert(at, entry)
     }
 
-    /// Takes the entry out of its place, which is free then.
+    /// Takes the entry out of its place.
     pub(crate) fn remove(&mut self, at: usize, entity: EntityId)
         requires at { IsAt self.old entity at }
         requires ascending { IsAscending (keys_of self.old) }
         ensures { Removes self.old self.new entity }
     {
-        self.count -= 1;
-        move_to_end(&mut self.order, at, self.count);
+        self.entries.remove(at);
     }
 }
 
-fn overwrite<T: Copy>(into: &mut Vec<T>, from: &[T; UNIT_ENTITIES])
-    requires { length into.old.items ≡ UNIT_ENTITIES }
-    ensures { into.new.items ≡ from.now }
+fn overwrite(list: &mut PlacedList<Entry>, entries: &[Entry; UNIT_ENTITIES])
+    requires { length list.old ≡ UNIT_ENTITIES }
+    ensures { list.new ≡ entries.now }
 {
-    into.as_mut_slice().copy_from_slice(from);
+    for at in 0..UNIT_ENTITIES {
+        list.set(at, entries[at]);
+    }
 }
 
 /// Writes the values of the entity where it is there.

@@ -17,7 +17,7 @@ use Rattle.class_spec.specs.Classes.{Attribute as Listed, Row, class_row}
 use Rattle.class_spec.specs.Masks.{bit_of}
 use Rattle.entity_classes.specs.Rule.{whole_width, attribute_of}
 use Rattle.mib_spec.specs.Database.{Managed, Values, bytes_of}
-use Rattle.mib_spec.specs.Requests.{with_zeros}
+use Rattle.frame_spec.specs.Widths.{filled}
 use Rattle.upload_spec.specs.declared.TheConstants.{PIECE_ROOM}
 use Rattle.upload_spec.specs.Pieces.{fits, current, ended, groups_from, mask_of, piece_of, pieces_of, pieces, piece_at, without_makers}
 use Rattle.upload_spec.specs.Copies.{attributes_of}
@@ -37,7 +37,7 @@ pub assembled : (class instance mask values zeros one two three four : List ℕ)
     → take 4 two ≡ take 2 one ++ instance → drop 4 two ≡ drop 4 one
     → take 6 three ≡ take 4 two ++ mask → drop 6 three ≡ drop 6 two
     → take (6 + length values) four ≡ take 6 three ++ values → drop (6 + length values) four ≡ drop (6 + length values) three
-    → four ≡ class ++ instance ++ mask ++ with_zeros PIECE_ROOM values
+    → four ≡ class ++ instance ++ mask ++ filled PIECE_ROOM values
 assembled class instance mask values zeros one two three four few blank f1 b1 f2 b2 f3 b3 f4 b4 =
     let n : ℕ = length values in
     let front : take (6 + n) four ≡ class ++ instance ++ mask ++ values =
@@ -67,8 +67,8 @@ module _ (entity : EntityId) (bytes : List ℕ) where
   one_piece : (group : Group) (values : Values) → Carries group values → piece_of entity values ≡ piece_by entity bytes group
   unfolding piece_of piece_by
   one_piece group values c =
-      ap (λ (m : ℕ). to_be_bytes w16 entity.class ++ to_be_bytes w16 entity.instance ++ to_be_bytes w16 m ++ with_zeros PIECE_ROOM (bytes_of values)) c.mask_is
-      ∙ ap (λ (b : List ℕ). to_be_bytes w16 entity.class ++ to_be_bytes w16 entity.instance ++ to_be_bytes w16 group.mask ++ with_zeros PIECE_ROOM b) c.bytes_are
+      ap (λ (m : ℕ). to_be_bytes w16 entity.class ++ to_be_bytes w16 entity.instance ++ to_be_bytes w16 m ++ filled PIECE_ROOM (bytes_of values)) c.mask_is
+      ∙ ap (λ (b : List ℕ). to_be_bytes w16 entity.class ++ to_be_bytes w16 entity.instance ++ to_be_bytes w16 group.mask ++ filled PIECE_ROOM b) c.bytes_are
 
   carried : (attributes : List Listed) (group : Group) (values : Values) → group.start + group.width + whole_width attributes ≤ length bytes → Carries group values
       → map (piece_of entity) (groups_from values (cut attributes (drop (group.start + group.width) bytes))) ≡ map (piece_by entity bytes) (groups_after group attributes)

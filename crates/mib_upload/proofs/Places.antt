@@ -1,8 +1,7 @@
 -- What stands in a place of the parts, and what an edit there does to the copy.
-use Rattle.std.proofs.Common.{◌≡◌, ℕ, zero, suc, ◌+◌, ◌<◌, ◌≤◌, ◌%◌, Bool, true, false, cond, List, [], ◌∷◌, ◌++◌, length, take, drop, set, get_or, is_some, Option, Some, None, Result, Ok, Err, IfOk, IfErr, refl, sym, ap, subst, ◌∙◌, inl, inr, arith}
+use Rattle.std.proofs.Common.{◌≡◌, ℕ, zero, suc, ◌+◌, ◌<◌, ◌≤◌, ◌%◌, Bool, true, false, cond, List, [], ◌∷◌, ◌++◌, length, take, drop, set, get_or, is_some, Option, Some, None, refl, sym, ap, subst, ◌∙◌, inl, inr, arith}
 use Rattle.std.specs.Prelude.{◌==◌}
 use Rattle.std.specs.List.{insert, remove}
-use Rattle.std.specs.List.Sorted.{IsSearchInRange, IsBinarySearchResult}
 use Rattle.std.specs.declared.cmp.Ordering.TheVariants.{Less, Equal, Greater}
 use Rattle.std.specs.Ordering.{is_eq, match_ordering}
 use Rattle.std.specs.Cmp.{tied_itself}
@@ -25,8 +24,8 @@ use Rattle.upload_spec.specs.Copies.{attributes_of, copied, copied_values, copie
 use Rattle.mib_upload.specs.declared.part.Part.{Part}
 use Rattle.mib_store.specs.Entries.{IsBefore, IsAscending}
 use Rattle.mib_upload.specs.Parts.{AreKnown, IsKnown, part_as, copy_of, keys_of, IsAt, IsGap, part_at, no_part}
-use Rattle.mib_laws.proofs.Others.{entity_total, entity_exact}
-use Rattle.mib_upload.proofs.Order.{turned, turned_back, ascending_at, rises}
+use Rattle.mib_laws.proofs.Others.{entity_total}
+use Rattle.mib_store.proofs.Order.{turned, turned_back, Narrows, Finds}
 
 -- those before a place are less than the entity, as the index says
 abbrev pub Below : List Part → EntityId → ℕ → Type 0
@@ -120,32 +119,16 @@ ascending_remove [] (suc at) h = tt
 ascending_remove (e ∷ es) zero h = h.1
 ascending_remove (e ∷ es) (suc at) h = (before_remove e.entity es at h.0, ascending_remove es at h.1)
 
--- what a binary search ends at
-pub record Searched (es : List Part) (q : EntityId) (r : Result ℕ ℕ) : Type 0 where
-  pub found : IfOk r (IsAt es q)
-  pub absent : IfErr r (IsGap es q)
-
-pub searched : (es : List Part) (q : EntityId) → IsAscending (keys_of es) → (r : Result ℕ ℕ) → IsSearchInRange r (length es) → IsBinarySearchResult (λ (e : Part). entity_cmp e.entity q) es r → Searched es q r
+-- what a search ends at
+pub found_at : (es : List Part) (q : EntityId) (at : ℕ) → Finds (λ (p : Part). p.entity) no_part es q at → IsAt es q at
 unfolding copied
-searched es q h (Ok at) in_range equal =
-    let here : (part_at es at).entity ≡ q = entity_exact _ _ (equal no_part) in
-    let below : Below es q at = λ k lt. subst (λ (x : EntityId). entity_cmp (part_at es k).entity x ≡ Less) here (ascending_at es k at h lt in_range) in
-    record {
-      found = record {
-        in_range = in_range;
-        here = here;
-        before = below;
-        is_copied = lookup_at es at q in_range below here;
-      };
-      absent = tt;
-    }
-searched es q h (Err at) in_range parted =
-    let below : Below es q at = λ k lt. (parted (rises es q h)).0 k no_part (omega arith) lt in
-    let above : Above es q at = λ k le lt. (parted (rises es q h)).1 k no_part le lt in
-    record {
-      found = tt;
-      absent = record { in_range = in_range; before = below; after = above; not_copied = none_in_gap es at q below above };
-    }
+found_at es q at f = record { in_range = f.in_range; here = f.here; before = f.before; is_copied = lookup_at es at q f.in_range f.before f.here }
+
+pub gap_at : (es : List Part) (q : EntityId) (low high : ℕ) → Narrows (λ (p : Part). p.entity) no_part es q low high → high ≤ low → IsGap es q low
+unfolding copied
+gap_at es q low high n le =
+    let above : Above es q low = λ k from lt. n.above k (omega (arith, from, n.ordered, le)) lt in
+    record { in_range = omega (arith, n.ordered, n.in_range); before = n.below; after = above; not_copied = none_in_gap es low q n.below above }
 
 -- a part in place of one that is there
 replaced_at : (es : List Part) (at : ℕ) (part : Part) → at < length es → Below es part.entity at → (part_at es at).entity ≡ part.entity → insert_entry entity_cmp (copy_of es) part.entity (part_as part).1 ≡ copy_of (set es at part)
@@ -189,22 +172,6 @@ absent es at q gap = sym (absent_at es q (λ k lt. elim (cases_lt k at) as (λ _
     absent_at : (es : List Part) (q : EntityId) → ((k : ℕ) → k < length es → is_eq (entity_cmp q (part_at es k).entity) ≡ false) → remove_entry (is_at (entity_cmp q)) (copy_of es) ≡ copy_of es
     absent_at [] q h = refl
     absent_at (e ∷ es) q h = ap (λ b. cond b (copy_of es) (part_as e ∷ remove_entry (is_at (entity_cmp q)) (copy_of es))) (h 0 (omega arith)) ∙ ap (λ (xs : Copy). part_as e ∷ xs) (absent_at es q (λ k lt. h (suc k) (omega arith)))
-
--- an entity after the last one would go to the end
-pub after_last : (es : List Part) (q : EntityId) (last : ℕ) → IsAscending (keys_of es) → last + 1 ≡ length es → entity_cmp (part_at es last).entity q ≡ Less → IsGap es q (length es)
-unfolding copied
-after_last es q last h is less =
-    let below : Below es q (length es) = λ k lt. elim (cases_lt k last) as (λ _. entity_cmp (part_at es k).entity q ≡ Less) [
-      | inl low ↦ entity_total.trans (part_at es k).entity (part_at es last).entity q (ascending_at es k last h low (omega (arith, is))) less
-      | inr high ↦ let same : last ≡ k = omega (arith, is, lt, high) in subst (λ j. entity_cmp (part_at es j).entity q ≡ Less) same less
-    ] in
-    let above : Above es q (length es) = λ k le lt. absurd (omega (arith, le, lt)) in
-    record { in_range = omega arith; before = below; after = above; not_copied = none_in_gap es (length es) q below above }
-
-pub no_parts : (es : List Part) (q : EntityId) → length es ≡ 0 → IsGap es q 0
-unfolding copied
-no_parts [] q is = record { in_range = omega arith; before = λ k lt. absurd (omega (arith, lt)); after = λ k le lt. absurd (omega (arith, lt)); not_copied = refl }
-no_parts (e ∷ es) q is = absurd (omega (arith, is))
 
 -- what the parts have of an entity
 pub values_there : (es : List Part) (q : EntityId) (at : ℕ) → IsAt es q at → (part_as (part_at es at)).1 ≡ copied_values q (copy_of es)

@@ -6,7 +6,7 @@ use Rattle.class_spec.specs.Classes.{Attribute as Listed}
 use Rattle.class_spec.specs.Masks.{bit_of}
 use Rattle.entity_classes.specs.declared.classes.Attribute.{Attribute}
 use Rattle.entity_classes.specs.Rule.{attribute_of}
-use Rattle.mib_spec.specs.Requests.{with_zeros}
+use Rattle.frame_spec.specs.Widths.{filled}
 use Rattle.upload_spec.specs.declared.TheConstants.{PIECE_ROOM}
 use Rattle.mib_upload.specs.declared.groups.Group.{Group}
 
@@ -43,7 +43,7 @@ groups_of attributes = groups_after no_group attributes
 unfoldable pub piece_by : EntityId → List ℕ → Group → List ℕ
 piece_by one bytes group =
     to_be_bytes w16 one.class ++ to_be_bytes w16 one.instance ++ to_be_bytes w16 group.mask
-    ++ with_zeros PIECE_ROOM (take group.width (drop group.start bytes))
+    ++ filled PIECE_ROOM (take group.width (drop group.start bytes))
 
 -- the attribute in this place, as the code has it
 pub record IsListed (attributes : List Listed) (place : ℕ) (attribute : Attribute) : Type 0 where

@@ -1,16 +1,17 @@
 //! The manager's copy of the unit's database.
 
-ghost use Rattle.std.specs.Prelude.{◌≡◌, ◌<◌, Some, length, slice_index_or, OnOk, OnErr};
+ghost use Rattle.std.specs.Prelude.{◌≡◌, ◌<◌, true, false, Some, None, length, slice_index_or};
+ghost use Rattle.std.specs.Prelude.{IsErr, OnOk, OnErr};
 ghost use Rattle.std.specs.Prelude.{◌==◌, ◌&&◌, nat_le};
 ghost use Rattle.class_spec.specs.Masks.{width_of};
 ghost use Rattle.omci_types.specs.declared.EntityId.{EntityId};
 ghost use Rattle.mib_spec.specs.Database.{Values, bytes_of};
 ghost use Rattle.upload_spec.specs.Pieces.{mask_of};
 ghost use Rattle.upload_spec.specs.Copies.{copy_counter, after_create, after_set, after_delete};
-ghost use Rattle.upload_spec.specs.Copies.{copy_grown};
+ghost use Rattle.upload_spec.specs.Copies.{copied, copy_grown};
 ghost use Rattle.class_spec.specs.Classes.{class_row};
 ghost use Rattle.entity_classes.specs.Rule.{IsRow};
-ghost use Rattle.mib_spec.specs.Requests.{is_onu_data, create_values, of_class};
+ghost use Rattle.mib_spec.specs.Requests.{is_class, is_onu_data, create_values, of_class};
 ghost use Rattle.upload_spec.specs.Copies.{attributes_of};
 ghost use Rattle.mib_upload.specs.Parts.{IsKnown, part_as};
 
@@ -22,6 +23,7 @@ use entity_classes::{Class, class};
 use mib_store::NoMemory;
 use omci_attributes::{Mask, Selection, select, width};
 use omci_types::EntityId;
+use placed_list::PlacedList;
 use std::marker::Model;
 
 /// What the copy has of an entity.
@@ -39,7 +41,7 @@ pub struct CopyEntry<'a> {
 /// memory.
 #[derive(Drop)]
 pub struct MibCopy {
-    parts: Vec<Part>,
+    parts: PlacedList<Part>,
 }
 
 impl Model for MibCopy {
@@ -48,18 +50,18 @@ impl Model for MibCopy {
 
     ghost Value = { Copy };
 
-    ghost view = { λ c. copy_of c.parts.items };
+    ghost view = { λ c. copy_of c.parts };
 
-    ghost invariant = { λ c. IsParts c.parts.items };
+    ghost invariant = { λ c. IsParts c.parts };
 }
 
 impl MibCopy {
     ghost use Rattle.mib_upload.specs.Parts.{copy_of, IsParts};
 
     /// The copy of these parts, which have a counter.
-    pub(crate) fn of(parts: Vec<Part>) -> MibCopy
-        requires { IsParts parts.items }
-        ensures { result ≡ copy_of parts.items }
+    pub(crate) fn of(parts: PlacedList<Part>) -> MibCopy
+        requires { IsParts parts }
+        ensures { result ≡ copy_of parts }
     {
         MibCopy { parts }
     }
@@ -68,7 +70,7 @@ impl MibCopy {
     pub fn counter(&self) -> u8
         ensures { result ≡ copy_counter self.now }
     {
-        counter(self.parts.as_slice())
+        counter(&self.parts)
     }
 
     /// How many entities there are.
@@ -88,7 +90,7 @@ impl MibCopy {
         ensures values { (other : EntityId × Values)
             → result.values.now ≡ bytes_of (slice_index_or self.now place other).1 }
     {
-        let part = part_at(self.parts.as_slice(), place);
+        let part = part_at(&self.parts, place);
         CopyEntry {
             entity: part.entity,
             mask: part.mask,
@@ -97,10 +99,13 @@ impl MibCopy {
     }
 
     /// A create of the entity had code 0: an entry that is there is replaced. Nothing changes for a
-    /// class outside the class table and for ONU data.
+    /// class outside the class table and for ONU data. It takes memory for a new entry, and nowhere
+    /// else; without memory nothing has changed.
     pub fn created(&mut self, entity: EntityId, values: &[u8; CREATE_ROOM]) -> Result<(), NoMemory>
         ensures ok { OnOk result (self.new ≡ after_create entity values.now self.old) }
         ensures err { OnErr result (self.new ≡ self.old) }
+        ensures room { IsErr result → (is_class entity.class ≡ true)
+            × (is_onu_data entity ≡ false) × (copied entity self.old ≡ None) }
     {
         let Some(class) = class(entity.class) else {
             return Ok(());
@@ -117,7 +122,7 @@ impl MibCopy {
     pub fn changed(&mut self, entity: EntityId, mask: Mask, values: &[u8; SET_ROOM])
         ensures { self.new ≡ after_set entity mask.0 values.now self.old }
     {
-        let Ok(at) = find(self.parts.as_slice(), entity) else {
+        let Ok(at) = find(&self.parts, entity) else {
             return;
         };
         let Some(class) = class(entity.class) else {
@@ -126,8 +131,9 @@ impl MibCopy {
         if !is_settable(&select(&class, mask)) {
             return;
         }
-        let part = part_at(self.parts.as_slice(), at);
-        self.parts[at] = overlay(&class, part, Chosen::Named(mask), values);
+        let part = part_at(&self.parts, at);
+        let after = overlay(&class, part, Chosen::Named(mask), values);
+        self.parts.set(at, after);
     }
 
     /// A delete of the entity had code 0. Nothing changes where it isn't there, and for ONU data.
@@ -144,7 +150,7 @@ impl MibCopy {
     pub fn grow(&mut self)
         ensures { self.new ≡ copy_grown self.old }
     {
-        grow_parts(self.parts.as_mut_slice());
+        grow_parts(&mut self.parts);
     }
 }
 

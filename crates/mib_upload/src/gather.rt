@@ -13,6 +13,7 @@ use crate::pieces::{bytes_in, entity_in, mask_in};
 use entity_classes::class;
 use omci_attributes::width;
 use omci_types::EntityId;
+use placed_list::PlacedList;
 use std::alloc::Global;
 use std::marker::Model;
 use thiserror::Error;
@@ -47,7 +48,7 @@ pub struct Missing;
 /// resynchronises; `add` alone changes it and takes memory.
 #[derive(Drop)]
 pub struct Gather {
-    parts: Vec<Part>,
+    parts: PlacedList<Part>,
     expected: u16,
 }
 
@@ -56,9 +57,9 @@ impl Model for Gather {
 
     ghost Value = { Gathering };
 
-    ghost view = { λ g. record { copy = copy_of g.parts.items; expected = g.expected } };
+    ghost view = { λ g. record { copy = copy_of g.parts; expected = g.expected } };
 
-    ghost invariant = { λ g. IsParts g.parts.items };
+    ghost invariant = { λ g. IsParts g.parts };
 }
 
 impl Gather {
@@ -69,7 +70,7 @@ impl Gather {
         ensures { result ≡ record { copy = []; expected = expected } }
     {
         Gather {
-            parts: Vec::new(alloc),
+            parts: PlacedList::new(alloc),
             expected,
         }
     }
@@ -91,7 +92,7 @@ impl Gather {
             (λ fault. fault ≡ fault_as (piece_fault piece.now self.old.copy)) }
         ensures kept { OnErr result (self.new ≡ self.old) }
     {
-        let part = match part_with(self.parts.as_slice(), piece) {
+        let part = match part_with(&self.parts, piece) {
             Ok(part) => part,
             Err(fault) => return Err(fault),
         };
@@ -109,7 +110,7 @@ impl Gather {
         ensures missing { OnErr result (copied_counter self.copy ≡ None) }
     {
         let Gather { parts, expected: _ } = self;
-        if has_counter(parts.as_slice()) {
+        if has_counter(&parts) {
             Ok(MibCopy::of(parts))
         } else {
             Err(Missing)
@@ -118,7 +119,7 @@ impl Gather {
 }
 
 /// The part of the piece's entity with the piece joined to it, or the piece's first fault.
-fn part_with(parts: &[Part], piece: &[u8; PIECE_BYTES]) -> Result<Part, GatherFault>
+fn part_with(parts: &PlacedList<Part>, piece: &[u8; PIECE_BYTES]) -> Result<Part, GatherFault>
     requires { IsAscending (keys_of parts.now) }
     ensures joins { IfOk result (Joins parts.now piece.now) }
     ensures fault { IfErr result (IsFault parts.now piece.now) }

@@ -1,8 +1,8 @@
 //! The parts of a copy, in ascending order of the entity.
 
 ghost use Rattle.std.specs.Prelude.{◌≡◌, ◌<◌, length, is_some, slice_index_or, slice_set};
-ghost use Rattle.std.specs.Prelude.{IfOk, IfErr, OnOk, OnErr};
-ghost use Rattle.upload_spec.specs.Copies.{copied_values, copied_counter, copy_counter};
+ghost use Rattle.std.specs.Prelude.{None, IfOk, IfErr, IsErr, OnOk, OnErr};
+ghost use Rattle.upload_spec.specs.Copies.{copied, copied_values, copied_counter, copy_counter};
 ghost use Rattle.upload_spec.specs.Copies.{with_copied, without_copied, copy_grown};
 ghost use Rattle.mib_spec.specs.Database.{bump};
 ghost use Rattle.mib_store.specs.Entries.{IsAscending};
@@ -14,41 +14,44 @@ use class_spec::ONU_DATA;
 use mib_store::NoMemory;
 use omci_attributes::Mask;
 use omci_types::EntityId;
+use placed_list::PlacedList;
 use std::cmp::Ordering;
 
-/// The place of the entity, or the place where it would go. An entity that comes after all is found
-/// at once.
-pub(crate) fn find(parts: &[Part], entity: EntityId) -> Result<usize, usize>
+/// The place of the entity, or the place where it would go.
+pub(crate) fn find(parts: &PlacedList<Part>, entity: EntityId) -> Result<usize, usize>
     requires { IsAscending (keys_of parts.now) }
     ensures found { IfOk result (IsAt parts.now entity) }
     ensures absent { IfErr result (IsGap parts.now entity) }
 {
-    let end = parts.len();
-    if end == 0 {
-        return Err(0);
+    let mut low = 0;
+    let mut high = parts.len();
+    while low < high {
+        let middle = low + (high - low) / 2;
+        match part_at(parts, middle).entity.cmp(&entity) {
+            Ordering::Less => low = middle + 1,
+            Ordering::Equal => return Ok(middle),
+            Ordering::Greater => high = middle,
+        }
     }
-    if let Ordering::Less = parts[end - 1].entity.cmp(&entity) {
-        return Err(end);
-    }
-    parts.binary_search_by_key(&entity, |part| part.entity)
+    Err(low)
 }
 
 /// The part in this place.
-pub(crate) fn part_at(parts: &[Part], at: usize) -> &Part
+pub(crate) fn part_at(parts: &PlacedList<Part>, at: usize) -> &Part
     requires { at < length parts.now }
     ensures { result.now ≡ part_at parts.now at }
 {
-    &parts[at]
+    parts.get(at)
 }
 
 /// What the parts have of the entity: an empty part where it isn't there.
-pub(crate) fn part_of(parts: &[Part], entity: EntityId) -> Part
+pub(crate) fn part_of(parts: &PlacedList<Part>, entity: EntityId) -> Part
     requires { IsAscending (keys_of parts.now) }
     ensures entity { result.entity ≡ entity }
     ensures values { (part_as result).1 ≡ copied_values entity (copy_of parts.now) }
 {
     match find(parts, entity) {
-        Ok(at) => parts[at],
+        Ok(at) => *part_at(parts, at),
         Err(_) => Part {
             entity,
             mask: Mask(0),
@@ -57,37 +60,38 @@ pub(crate) fn part_of(parts: &[Part], entity: EntityId) -> Part
     }
 }
 
-/// Puts the part in its place, in place of the one that is there. Without memory nothing has
-/// changed.
-pub(crate) fn put_part(parts: &mut Vec<Part>, part: Part) -> Result<(), NoMemory>
-    requires { IsAscending (keys_of parts.old.items) }
-    ensures known { IsKnown part → AreKnown parts.old.items → AreKnown parts.new.items }
-    ensures ok { OnOk result (copy_of parts.new.items
-        ≡ with_copied part.entity (part_as part).1 (copy_of parts.old.items)) }
-    ensures err { OnErr result (parts.new.items ≡ parts.old.items) }
-    ensures ascending { IsAscending (keys_of parts.new.items) }
+/// Puts the part in its place, in place of the one that is there, which takes no memory. Without
+/// memory nothing has changed.
+pub(crate) fn put_part(parts: &mut PlacedList<Part>, part: Part) -> Result<(), NoMemory>
+    requires { IsAscending (keys_of parts.old) }
+    ensures known { IsKnown part → AreKnown parts.old → AreKnown parts.new }
+    ensures ok { OnOk result (copy_of parts.new
+        ≡ with_copied part.entity (part_as part).1 (copy_of parts.old)) }
+    ensures err { OnErr result (parts.new ≡ parts.old) }
+    ensures ascending { IsAscending (keys_of parts.new) }
+    ensures room { IsErr result → copied part.entity (copy_of parts.old) ≡ None }
 {
     match find(parts, part.entity) {
-        Ok(at) => parts[at] = part,
+        Ok(at) => parts.set(at, part),
         Err(at) => parts.insert(at, part)?,
     }
     Ok(())
 }
 
 /// Takes the entity away where it is there.
-pub(crate) fn remove_part(parts: &mut Vec<Part>, entity: EntityId)
-    requires { IsAscending (keys_of parts.old.items) }
-    ensures removed { copy_of parts.new.items ≡ without_copied entity (copy_of parts.old.items) }
-    ensures ascending { IsAscending (keys_of parts.new.items) }
-    ensures known { AreKnown parts.old.items → AreKnown parts.new.items }
+pub(crate) fn remove_part(parts: &mut PlacedList<Part>, entity: EntityId)
+    requires { IsAscending (keys_of parts.old) }
+    ensures removed { copy_of parts.new ≡ without_copied entity (copy_of parts.old) }
+    ensures ascending { IsAscending (keys_of parts.new) }
+    ensures known { AreKnown parts.old → AreKnown parts.new }
 {
     if let Ok(at) = find(parts, entity) {
-        let _part = parts.remove(at);
+        parts.remove(at);
     }
 }
 
 /// Whether the parts have a counter: attribute 1 of ONU data.
-pub(crate) fn has_counter(parts: &[Part]) -> bool
+pub(crate) fn has_counter(parts: &PlacedList<Part>) -> bool
     requires { IsAscending (keys_of parts.now) }
     ensures { result ≡ is_some (copied_counter (copy_of parts.now)) }
 {
@@ -95,7 +99,7 @@ pub(crate) fn has_counter(parts: &[Part]) -> bool
 }
 
 /// The counter.
-pub(crate) fn counter(parts: &[Part]) -> u8
+pub(crate) fn counter(parts: &PlacedList<Part>) -> u8
     requires { IsAscending (keys_of parts.now) }
     ensures { result ≡ copy_counter (copy_of parts.now) }
 {
@@ -106,7 +110,7 @@ pub(crate) fn counter(parts: &[Part]) -> u8
 }
 
 /// Makes the counter one more, and 1 after 255, where the parts have one.
-pub(crate) fn grow_parts(parts: &mut [Part])
+pub(crate) fn grow_parts(parts: &mut PlacedList<Part>)
     requires { IsAscending (keys_of parts.old) }
     ensures grown { copy_of parts.new ≡ copy_grown (copy_of parts.old) }
     ensures keys { keys_of parts.new ≡ keys_of parts.old }
@@ -116,18 +120,19 @@ pub(crate) fn grow_parts(parts: &mut [Part])
         return;
     }
     if let Ok(at) = find(parts, ONU_DATA) {
-        parts[at] = next_part(parts[at]);
+        let after = next_part(part_at(parts, at));
+        parts.set(at, after);
     }
 }
 
 /// The part of ONU data with the next count.
-fn next_part(part: Part) -> Part
-    ensures entity { result.entity ≡ part.entity }
-    ensures mask { result.mask ≡ part.mask }
+fn next_part(part: &Part) -> Part
+    ensures entity { result.entity ≡ part.now.entity }
+    ensures mask { result.mask ≡ part.now.mask }
     ensures values { result.values
-        ≡ slice_set part.values 0 (bump (slice_index_or part.values 0 0)) }
+        ≡ slice_set part.now.values 0 (bump (slice_index_or part.now.values 0 0)) }
 {
-    let mut after = part;
+    let mut after = *part;
     after.values[0] = next_count(part.values[0]);
     after
 }

@@ -10,7 +10,7 @@ ghost use Rattle.lane_spec.specs.Lane.{lane_reply, is_changed_by, waiting_packet
 use crate::command::{Command, is_change};
 use crate::{Frame, LaneTick, NoMemory, Packets, Priority};
 use lane_spec::{HIGH_TIMEOUT, LOW_TIMEOUT, MOST_REPEATS};
-use omci_core::{Packet, next_number};
+use omci_core::next_number;
 use omci_frames::encode;
 use std::marker::Model;
 use tci_spec::FIRST_HIGH_TCI;
@@ -80,9 +80,7 @@ impl Waiting {
     {
         let mut bytes = [0; 48];
         encode(&self.frame, &mut bytes);
-        let mut packet = Packet::new();
-        packet.put(&bytes);
-        out.push(packet)
+        out.push_bytes(&bytes)
     }
 }
 

@@ -10,7 +10,7 @@ use Rattle.omci_types.specs.declared.EntityId.{EntityId}
 use Rattle.omci_types.specs.declared.Frame.{Frame}
 use Rattle.message_spec.specs.declared.Response.{Response}
 use Rattle.message_spec.specs.declared.Response.TheVariants as response
-use Rattle.mib_spec.specs.Database.{Values, entity_cmp}
+use Rattle.mib_spec.specs.Database.{entity_cmp}
 use Rattle.mib_spec.specs.Requests.{is_class}
 use Rattle.upload_spec.specs.declared.PieceFault.{PieceFault}
 use Rattle.upload_spec.specs.declared.PieceFault.TheVariants as fault
@@ -23,17 +23,17 @@ use Rattle.manager_spec.specs.Resync.{gather_on, piece_by, piece_came}
 use Rattle.manager_spec.specs.Steps.{upload_by, piece_by_reply, job_by}
 
 -- an entry more, or another value of one that is there
-length_inserted : (es : Copy) (one : EntityId) (values : Values)
+pub length_inserted : {V : Type 0} (es : List (EntityId × V)) (one : EntityId) (values : V)
     → length (insert_entry entity_cmp es one values) ≤ length es + 1
 length_inserted [] one values = omega arith
-length_inserted (e ∷ es) one values = by (entity_cmp one e.0) (length_inserted es one values)
+length_inserted {V} (e ∷ es) one values = by (entity_cmp one e.0) (length_inserted es one values)
   where
-    rest : Copy
+    rest : List (EntityId × V)
     rest = insert_entry entity_cmp es one values
 
     by : (order : Ordering) → length rest ≤ length es + 1
         → length (match_ordering order ((one, values) ∷ e ∷ es) ((e.0, values) ∷ es) (e ∷ rest))
-        ≤ length {A = EntityId × Values} (e ∷ es) + 1
+        ≤ length {A = EntityId × V} (e ∷ es) + 1
     by Less h = omega arith
     by Equal h = omega arith
     by Greater h = omega (arith, h)

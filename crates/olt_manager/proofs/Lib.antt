@@ -1,2 +1,3 @@
 pub mod Untaken
 pub mod Gathered
+pub mod Rows

@@ -1,6 +1,7 @@
 //! The manager as its callers hold it.
 
-ghost use Rattle.std.specs.Prelude.{◌≡◌, ◌≢◌, ◌↔◌, ◌++◌, ◌&&◌, is_none, option_copied, Option};
+ghost use Rattle.std.specs.Prelude.{◌≡◌, ◌≢◌, ◌↔◌, ◌++◌, ◌&&◌, is_none, option_copied, option_map};
+ghost use Rattle.std.specs.Prelude.{Option, IfOk};
 ghost use Rattle.std.specs.Prelude.{Some, None, true, Ok, Err, IfErr, OnOk, OnErr, IsNone};
 ghost use Rattle.std.specs.Prelude.{option_to_list, []};
 ghost use Rattle.tci_spec.specs.Tci.{IsNumber};
@@ -8,12 +9,13 @@ ghost use Rattle.message_spec.specs.Reading.{RequestWindow};
 ghost use Rattle.manager_spec.specs.declared.Refusal.TheVariants as refusal;
 ghost use Rattle.manager_spec.specs.Manager.{manager_started, packets_of};
 ghost use Rattle.manager_spec.specs.Submitting.{after_probe, after_submit, after_check};
-ghost use Rattle.manager_spec.specs.Submitting.{after_resync};
+ghost use Rattle.manager_spec.specs.Submitting.{after_resync, after_audit};
+ghost use Rattle.manager_spec.specs.Jobs.{job_of};
 ghost use Rattle.manager_spec.specs.Steps.{after_packet, after_tick};
 ghost use Rattle.olt_manager.specs.State.{sound, AreFrames};
-ghost use Rattle.olt_manager.specs.Stages.{job_of};
 
 use crate::olt::Olt;
+use alarm_log::AlarmTable;
 use manager_spec::{Job, Phase, Refusal, Report};
 use mib_upload::MibCopy;
 use omci_contents::Request;
@@ -52,16 +54,17 @@ fn answer_of(outcome: Result<Option<Refusal>, NoMemory>) -> Result<(), Refusal>
 
 impl Manager {
     /// A manager whose lanes draw their numbers from these on, each 1 to 32,767. Nothing is proved,
-    /// nothing is outstanding, and no resynchronisation was made.
-    pub fn start(alloc: Global, low: u16, high: u16) -> Manager
+    /// nothing is outstanding, and neither a resynchronisation nor an audit was made. It takes the
+    /// memory for the notices that may wait while an audit runs.
+    pub fn start(alloc: Global, low: u16, high: u16) -> Result<Manager, NoMemory>
         requires low { IsNumber low }
         requires high { IsNumber high }
-        ensures started { result ≡ sound (manager_started low high) }
+        ensures started { IfOk result (λ m. m ≡ sound (manager_started low high)) }
     {
-        Manager {
+        Ok(Manager {
             spent: false,
-            olt: Olt::start(alloc, low, high),
-        }
+            olt: Olt::start(alloc, low, high)?,
+        })
     }
 
     /// Probes a lane: a get of MIB data sync (ITU-T G.988, clause 9.1.3) whose reply proves the
@@ -184,9 +187,37 @@ impl Manager {
         answer
     }
 
-    /// Takes a packet from the link, and puts what the manager sends on it into `out`. A packet
-    /// that isn't exactly one frame, or that answers nothing that is outstanding, is reported as
-    /// dropped.
+    /// Asks over the low lane for all of the unit's alarms (ITU-T G.988, get all alarms), and reads
+    /// them row by row into the table. Refused, in this order, where the lane isn't proved, where a
+    /// command is outstanding in it, and where a job runs; then nothing has changed and nothing is
+    /// sent.
+    pub fn audit(&mut self, out: &mut Packets) -> Result<(), Refusal>
+        ensures refused { IfErr result (λ r. r ≢ refusal.NoMemory
+            → (after_audit self.old.manager).refusal ≡ Some r) }
+        ensures accepted { OnOk result ((after_audit self.old.manager).refusal ≡ None) }
+        ensures kept { IfErr result
+            (λ r. r ≢ refusal.NoMemory → (self.new ≡ self.old) × (out.new ≡ out.old)) }
+        ensures manager { result ≢ Err refusal.NoMemory
+            → self.new ≡ sound (after_audit self.old.manager).outcome.manager }
+        ensures packets { result ≢ Err refusal.NoMemory
+            → out.new ≡ out.old ++ packets_of (after_audit self.old.manager).outcome.sendings }
+        ensures whole { result ≢ Err refusal.NoMemory
+            → AreFrames (packets_of (after_audit self.old.manager).outcome.sendings) }
+        ensures spent { self.old.spent ≡ true → result ≡ Err refusal.NoMemory }
+        ensures spends { result ≡ Err refusal.NoMemory → self.new.spent ≡ true }
+    {
+        if self.spent {
+            return Err(Refusal::NoMemory);
+        }
+        let answer = answer_of(self.olt.audit(out));
+        self.spent = matches!(answer, Err(Refusal::NoMemory));
+        answer
+    }
+
+    /// Takes a packet from the link, and puts what the manager sends on it into `out`. What answers
+    /// nothing that is outstanding is taken where it is a notice, whatever its TCI: an alarm goes
+    /// to the table, and a changed value is reported alone. Anything else, and a packet that isn't
+    /// exactly one frame, is reported as dropped.
     pub fn packet(&mut self, bytes: &[u8], out: &mut Packets) -> Result<(), NoMemory>
         ensures manager { OnOk result
             (self.new ≡ sound (after_packet bytes.now self.old.manager).manager) }
@@ -246,7 +277,7 @@ impl Manager {
 
     /// The job that runs. `None` exactly where none does.
     pub fn job(&self) -> Option<Job>
-        ensures value { result ≡ job_of self.now.manager.job }
+        ensures value { result ≡ option_map job_of self.now.manager.job }
     {
         self.olt.job()
     }
@@ -266,5 +297,13 @@ impl Manager {
         ensures value { option_copied result ≡ self.now.manager.copy }
     {
         self.olt.copy()
+    }
+
+    /// The table of the unit's alarms: what the last audit read, and the notices since, where none
+    /// was lost.
+    pub fn alarms(&self) -> &AlarmTable
+        ensures value { result.now ≡ self.now.manager.table }
+    {
+        self.olt.alarms()
     }
 }

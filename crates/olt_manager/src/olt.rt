@@ -1,15 +1,16 @@
-//! The manager itself: its two lanes, its phase and its copy, the job that runs, and the reports
-//! that wait to be taken out.
+//! The manager itself: its two lanes, its phase and its copy, its table of alarms, the job that
+//! runs, and the reports that wait to be taken out.
 
 ghost use Rattle.std.specs.Prelude.{◌≡◌, ◌↔◌, ◌++◌, ◌&&◌, false, is_none, option_copied, None};
-ghost use Rattle.std.specs.Prelude.{OnOk, IsNone, option_to_list, []};
+ghost use Rattle.std.specs.Prelude.{IfOk, OnOk, IsNone, option_map, option_to_list, []};
 ghost use Rattle.tci_spec.specs.Tci.{IsNumber};
 ghost use Rattle.manager_spec.specs.Manager.{manager_started, lane_in, with_report, leave_step};
 ghost use Rattle.manager_spec.specs.Manager.{step_lost, packets_of, command_sent};
 ghost use Rattle.olt_manager.specs.State.{AreFrames};
-ghost use Rattle.olt_manager.specs.Stages.{job_of};
+ghost use Rattle.manager_spec.specs.Jobs.{job_of};
 
-use crate::stage::Stage;
+use crate::stage::{Stage, job_of};
+use alarm_log::AlarmTable;
 use manager_spec::{Job, Phase, Report};
 use mib_upload::MibCopy;
 use olt_lanes::{Command, Lane};
@@ -27,6 +28,7 @@ pub struct Olt {
     pub(crate) high: Lane,
     pub(crate) phase: Phase,
     pub(crate) copy: Option<MibCopy>,
+    pub(crate) table: AlarmTable,
     pub(crate) job: Option<Stage>,
     pub(crate) reports: VecDeque<Report>,
 }
@@ -43,29 +45,33 @@ impl Model for Olt {
       high = m.high;
       phase = m.phase;
       copy = m.copy;
+      table = m.table;
       job = option_map stage_of m.job;
       reports = m.reports.items;
     } };
 
-    ghost invariant = { λ m. IsJob m.job };
+    ghost invariant = { λ m. IsJob m.job m.table };
 }
 
 impl Olt {
-    /// Nothing is proved and nothing is outstanding, no job runs, and there is no copy.
-    pub fn start(alloc: Global, low: u16, high: u16) -> Olt
+    /// Nothing is proved and nothing is outstanding, no job runs, there is no copy, and the table
+    /// is empty and unaudited.
+    pub fn start(alloc: Global, low: u16, high: u16) -> Result<Olt, NoMemory>
         requires low { IsNumber low }
         requires high { IsNumber high }
-        ensures started { result ≡ manager_started low high }
+        ensures started { IfOk result (λ m. m ≡ manager_started low high) }
     {
-        Olt {
+        let table = AlarmTable::new(alloc)?;
+        Ok(Olt {
             alloc,
             low: Lane::new(Priority::Low, low),
             high: Lane::new(Priority::High, high),
             phase: Phase::New,
             copy: None,
+            table,
             job: None,
             reports: VecDeque::new(alloc),
-        }
+        })
     }
 
     /// The lane of a priority.
@@ -158,11 +164,11 @@ impl Olt {
 
     /// The job that runs.
     pub fn job(&self) -> Option<Job>
-        ensures value { result ≡ job_of self.now.job }
+        ensures value { result ≡ option_map job_of self.now.job }
     {
         match &self.job {
             None => None,
-            Some(_stage) => Some(Job::Resync),
+            Some(stage) => Some(job_of(stage)),
         }
     }
 
@@ -182,5 +188,12 @@ impl Olt {
             None => None,
             Some(copy) => Some(copy),
         }
+    }
+
+    /// The table of the unit's alarms.
+    pub fn alarms(&self) -> &AlarmTable
+        ensures value { result.now ≡ self.now.table }
+    {
+        &self.table
     }
 }

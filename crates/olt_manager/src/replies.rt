@@ -1,15 +1,16 @@
 //! What a packet does to the manager.
 
-ghost use Rattle.std.specs.Prelude.{◌≡◌, ◌++◌, OnOk};
+ghost use Rattle.std.specs.Prelude.{◌≡◌, ◌++◌, [], OnOk};
 ghost use Rattle.tci_spec.specs.Tci.{priority_of};
-ghost use Rattle.message_spec.specs.Reading.{RequestWindow};
+ghost use Rattle.message_spec.specs.Reading.{RequestWindow, message_of};
 ghost use Rattle.lane_spec.specs.Command.{ask};
 ghost use Rattle.lane_spec.specs.Lane.{lane_reply};
 ghost use Rattle.manager_spec.specs.declared.Report.TheVariants as report;
 ghost use Rattle.manager_spec.specs.Manager.{lane_in, with_lane, with_report, packets_of};
 ghost use Rattle.manager_spec.specs.Steps.{response_of, code_of, first_value, probe_taken};
 ghost use Rattle.manager_spec.specs.Steps.{followed_by, expected_counter, counters_compared};
-ghost use Rattle.manager_spec.specs.Steps.{checked_by, job_by, taken_as, frame_came, after_packet};
+ghost use Rattle.manager_spec.specs.Steps.{checked_by, job_by, taken_as, not_taken, frame_came};
+ghost use Rattle.manager_spec.specs.Steps.{after_packet};
 ghost use Rattle.olt_manager.specs.State.{AreFrames};
 
 use crate::olt::Olt;
@@ -78,7 +79,8 @@ fn first_value(response: &Response) -> u8
 }
 
 impl Olt {
-    /// Takes a packet from the link: one that isn't exactly one frame is no reply.
+    /// Takes a packet from the link: one that isn't exactly one frame is neither a reply nor a
+    /// notice.
     #[tactic(auto, unfolding(manager_spec::specs::Steps::after_packet))]
     pub fn packet(&mut self, bytes: &[u8], out: &mut Packets) -> Result<(), NoMemory>
         ensures manager { OnOk result (self.new ≡ (after_packet bytes.now self.old).manager) }
@@ -95,7 +97,7 @@ impl Olt {
     }
 
     /// Takes a frame of that lane: where it answers the outstanding command the lane is free, and
-    /// then the job goes on.
+    /// then the job goes on. Beside replies notices are taken.
     #[tactic(auto, using(crate::proofs::Untaken::untaken))]
     fn frame(
         &mut self,
@@ -111,17 +113,32 @@ impl Olt {
             (AreFrames (packets_of (frame_came priority frame.now self.old).sendings)) }
     {
         let Some(command) = self.lane(priority).command() else {
-            return self.report(Report::Dropped);
+            return self.not_taken(frame);
         };
         let purpose = command.purpose();
         let entity = command.entity();
         let request = command.request();
         if !self.reply(priority, frame) {
-            return self.report(Report::Dropped);
+            self.not_taken(frame)?;
+            return Ok(());
         }
         self.take(purpose, priority, entity, &request, frame)?;
         self.job_goes_on(out)?;
         Ok(())
+    }
+
+    /// A frame that answers nothing is dropped, but for a notice.
+    fn not_taken(&mut self, frame: &Frame) -> Result<(), NoMemory>
+        ensures manager { OnOk result
+            (self.new ≡ (not_taken (message_of frame.now) frame.now self.old).manager) }
+        ensures silent { (not_taken (message_of frame.now) frame.now self.old).sendings ≡ [] }
+    {
+        match read_message(frame) {
+            Ok(Message::Told { entity, notice, .. }) => self.notice_came(entity, &notice, frame),
+            Ok(Message::Asked { .. }) | Ok(Message::Answered { .. }) | Err(_) => {
+                self.report(Report::Dropped)
+            }
+        }
     }
 
     /// The reply to a command that was sent for this purpose is taken.
@@ -233,6 +250,12 @@ impl Olt {
             }
             (Some(Stage::Gathering { gather, next }), Some(Response::UploadNext { piece })) => {
                 self.piece_came(gather, next, &piece)?;
+            }
+            (Some(Stage::AskingAlarms), Some(Response::Alarms { count })) => {
+                self.begin_rows(count)?;
+            }
+            (Some(Stage::GatheringRows { expected, next }), Some(Response::AlarmsNext { row })) => {
+                self.row_came(expected, next, &row)?;
             }
             (job, _) => {
                 self.job = job;

@@ -2,32 +2,16 @@
 //! is asked to put its database by, and its pieces are gathered one after the other into a new
 //! copy.
 
-ghost use Rattle.std.specs.Prelude.{◌≡◌, ◌<◌, ◌≤◌, ◌^◌, ◌++◌, ◌&&◌, is_none, length, option_map};
-ghost use Rattle.std.specs.Prelude.{OnOk, IfSome};
-ghost use Rattle.message_spec.specs.Reading.{RequestWindow};
-ghost use Rattle.manager_spec.specs.Manager.{packets_of};
+ghost use Rattle.std.specs.Prelude.{◌≡◌, ◌<◌, ◌≤◌, ◌^◌, length, OnOk};
 ghost use Rattle.manager_spec.specs.Resync.{with_job, resync_failed, resync_done, all_gathered};
-ghost use Rattle.manager_spec.specs.Resync.{gather_on, piece_came, waits_for, wish_in, is_free};
-ghost use Rattle.manager_spec.specs.Resync.{job_goes_on};
+ghost use Rattle.manager_spec.specs.Resync.{gather_on, piece_came};
 ghost use Rattle.manager_spec.specs.Steps.{job_probed};
-ghost use Rattle.olt_manager.specs.State.{AreFrames};
-ghost use Rattle.olt_manager.specs.Stages.{with_wish};
 
 use crate::olt::Olt;
 use crate::stage::Stage;
-use class_spec::ONU_DATA;
 use manager_spec::{Phase, Report, ResyncReason};
 use mib_upload::{Gather, GatherFault, MibCopy, Missing, PIECE_BYTES};
-use olt_lanes::{Command, Lane};
-use omci_contents::Request;
-use omci_core::{NoMemory, Packets, Priority};
-
-/// Whether the job may send over a lane.
-fn is_free(lane: &Lane) -> bool
-    ensures value { result ≡ is_free lane.now }
-{
-    !lane.unproven() && lane.outstanding().is_none()
-}
+use omci_core::{NoMemory, Priority};
 
 impl Olt {
     // ---- how it ends
@@ -123,59 +107,5 @@ impl Olt {
             Err(GatherFault::NoMemory) => return Err(NoMemory),
         };
         self.fail_resync(reason)
-    }
-
-    // ---- what it waits for, and what it sends next
-
-    /// Whether the job waits for the lane's command.
-    pub fn waits_for(&self, priority: Priority) -> bool
-        ensures value { result ≡ waits_for priority self.now.job }
-    {
-        match (&self.job, priority) {
-            (None, _) => false,
-            (Some(Stage::Probing { high, .. }), Priority::High) => *high,
-            (Some(Stage::Probing { low, .. }), Priority::Low) => *low,
-            (Some(Stage::Asking), Priority::Low) => true,
-            (Some(Stage::Gathering { .. }), Priority::Low) => true,
-            (Some(_stage), Priority::High) => false,
-        }
-    }
-
-    /// What the job asks next, if anything; its stage is then the one that the request begins.
-    fn next_request(&mut self) -> Option<Request>
-        ensures request { result ≡ option_map (λ w. w.request) (wish_in self.old.job) }
-        ensures manager { self.new ≡ with_wish (wish_in self.old.job) self.old }
-        ensures window { IfSome result (λ request. RequestWindow request) }
-    {
-        match &self.job {
-            Some(
-                Stage::Probing {
-                    high: false,
-                    low: false,
-                },
-            ) => {
-                self.job = Some(Stage::Asking);
-                Some(Request::Upload)
-            }
-            Some(Stage::Gathering { next, .. }) => Some(Request::UploadNext { number: *next }),
-            _ => None,
-        }
-    }
-
-    /// The low lane, where it is free, sends what the job wants next.
-    #[tactic(auto, unfolding(manager_spec::specs::Resync::job_goes_on))]
-    pub fn job_goes_on(&mut self, out: &mut Packets) -> Result<(), NoMemory>
-        ensures manager { OnOk result (self.new ≡ (job_goes_on self.old).manager) }
-        ensures packets { OnOk result
-            (out.new ≡ out.old ++ packets_of (job_goes_on self.old).sendings) }
-        ensures whole { OnOk result (AreFrames (packets_of (job_goes_on self.old).sendings)) }
-    {
-        if !is_free(&self.low) {
-            return Ok(());
-        }
-        if let Some(request) = self.next_request() {
-            self.send(Priority::Low, Command::job(ONU_DATA, request), out)?;
-        }
-        Ok(())
     }
 }

@@ -1,5 +1,5 @@
-//! What is asked of the manager: probes, submissions, checks and resynchronisations, and when each
-//! is refused.
+//! What is asked of the manager: probes, submissions, checks, resynchronisations and audits, and
+//! when each is refused.
 
 ghost use Rattle.std.specs.Prelude.{◌≡◌, ◌++◌, IfOk, OnOk, IsSome};
 ghost use Rattle.omci_types.specs.declared.Priority.TheVariants.{Low};
@@ -10,12 +10,14 @@ ghost use Rattle.manager_spec.specs.Submitting.{job_running, goes_beside, job_in
 ghost use Rattle.manager_spec.specs.Submitting.{other_change, second_change, probe_refusal};
 ghost use Rattle.manager_spec.specs.Submitting.{submit_refusal, check_refusal, resync_refusal};
 ghost use Rattle.manager_spec.specs.Submitting.{leaves_copy, leave_if, after_probe, after_submit};
-ghost use Rattle.manager_spec.specs.Submitting.{after_check, after_resync};
+ghost use Rattle.manager_spec.specs.Submitting.{after_check, after_resync, audit_refusal};
+ghost use Rattle.manager_spec.specs.Submitting.{after_audit};
 ghost use Rattle.olt_manager.specs.State.{AreFrames};
 
 use crate::olt::Olt;
-use crate::stage::Stage;
-use manager_spec::{Job, Phase, Refusal};
+use crate::stage::{Stage, job_of};
+use class_spec::ONU_DATA;
+use manager_spec::{Phase, Refusal};
 use olt_lanes::{Command, is_change};
 use omci_contents::Request;
 use omci_core::{EntityId, NoMemory, Packets, Priority};
@@ -113,7 +115,7 @@ impl Olt {
     {
         match &self.job {
             None => None,
-            Some(_stage) => Some(Refusal::JobRunning { job: Job::Resync }),
+            Some(stage) => Some(Refusal::JobRunning { job: job_of(stage) }),
         }
     }
 
@@ -226,6 +228,21 @@ impl Olt {
         self.job_running()
     }
 
+    /// The first reason why no audit begins.
+    fn audit_refusal(&self) -> Option<Refusal>
+        ensures value { result ≡ audit_refusal self.now }
+    {
+        let unproven = self.unproven(Priority::Low);
+        if unproven.is_some() {
+            return unproven;
+        }
+        let occupied = self.occupied(Priority::Low);
+        if occupied.is_some() {
+            return occupied;
+        }
+        self.job_running()
+    }
+
     // ---- what is submitted
 
     /// Probes a lane: a get of MIB data sync, whose reply proves the lane whatever it says.
@@ -334,6 +351,27 @@ impl Olt {
             });
             self.send(Priority::High, Command::probe(), out)?;
             self.send(Priority::Low, Command::probe(), out)?;
+        }
+        Ok(refusal)
+    }
+
+    /// Begins an audit: all of the unit's alarms are asked for, whatever its mode of reporting.
+    #[tactic(auto, unfolding(manager_spec::specs::Submitting::after_audit))]
+    pub fn audit(&mut self, out: &mut Packets) -> Result<Option<Refusal>, NoMemory>
+        ensures refusal { IfOk result (λ refusal. refusal ≡ (after_audit self.old).refusal) }
+        ensures manager { OnOk result (self.new ≡ (after_audit self.old).outcome.manager) }
+        ensures kept { IfOk result
+            (λ refusal. IsSome refusal → (self.new ≡ self.old) × (out.new ≡ out.old)) }
+        ensures packets { OnOk result
+            (out.new ≡ out.old ++ packets_of (after_audit self.old).outcome.sendings) }
+        ensures whole { OnOk result
+            (AreFrames (packets_of (after_audit self.old).outcome.sendings)) }
+    {
+        let refusal = self.audit_refusal();
+        if refusal.is_none() {
+            self.job = Some(Stage::AskingAlarms);
+            let command = Command::job(ONU_DATA, Request::Alarms { mode: 0 });
+            self.send(Priority::Low, command, out)?;
         }
         Ok(refusal)
     }

@@ -3,12 +3,12 @@
 ghost use Rattle.std.specs.Prelude.{◌≡◌, ◌++◌, OnOk};
 ghost use Rattle.lane_spec.specs.Lane.{lane_tick};
 ghost use Rattle.manager_spec.specs.Manager.{lane_in, with_lane, packets_of};
-ghost use Rattle.manager_spec.specs.Resync.{waits_for};
+ghost use Rattle.manager_spec.specs.Jobs.{waits_for};
 ghost use Rattle.manager_spec.specs.Steps.{loss_seen, tick_lane, after_tick};
 ghost use Rattle.olt_manager.specs.State.{AreFrames};
 
 use crate::olt::Olt;
-use manager_spec::{Report, ResyncReason};
+use manager_spec::Report;
 use olt_lanes::LaneTick;
 use omci_core::{NoMemory, Packets, Priority};
 
@@ -63,7 +63,7 @@ impl Olt {
             (self.new ≡ loss_seen (waits_for priority self.old.job) changes tci self.old) }
     {
         if self.waits_for(priority) {
-            return self.fail_resync(ResyncReason::GaveUp { tci });
+            return self.lose_job(tci);
         }
         if changes {
             self.leave_step()?;

@@ -3,7 +3,7 @@
 #![tactic(auto)]
 
 ghost use Rattle.std.specs.Prelude.{◌≡◌, ◌≢◌, ◌<◌, ◌≤◌};
-ghost use Rattle.tci_spec.specs.Tci.{number_after};
+ghost use Rattle.tci_spec.specs.Tci.{number_after, priority_of};
 
 mod adapters;
 mod arrays;
@@ -35,4 +35,15 @@ pub fn next_number(n: u16) -> u16
     ensures differs { result ≢ n }
 {
     if n == LAST_NUMBER { 1 } else { n + 1 }
+}
+
+/// The priority of a TCI: high exactly where its top bit is set (ITU-T G.988, clause 11.2.2).
+pub fn priority_of(tci: u16) -> Priority
+    ensures value { result ≡ priority_of tci }
+{
+    if tci < FIRST_HIGH_TCI {
+        Priority::Low
+    } else {
+        Priority::High
+    }
 }

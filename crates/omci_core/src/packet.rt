@@ -102,18 +102,24 @@ impl fmt::Debug for Packet {
     }
 }
 
-/// A list of packets. Contracts see a list of lists of bytes.
-#[derive(Debug, Drop)]
+/// A list of packets. Contracts see a list of lists of bytes. The room of packets that were taken
+/// away is kept, and the next ones are written into it.
+#[derive(Drop)]
 pub struct Packets {
+    /// The packets, and after them those that were taken away.
     packets: Vec<Packet>,
+    /// How many packets there are.
+    count: usize,
 }
 
 impl Model for Packets {
-    ghost use Rattle.std.specs.Prelude.{ℕ, List};
+    ghost use Rattle.std.specs.Prelude.{ℕ, ◌≤◌, List, length, take};
 
     ghost Value = { List (List ℕ) };
 
-    ghost view = { λ p. p.packets.items };
+    ghost view = { λ p. take p.count p.packets.items };
+
+    ghost invariant = { λ p. p.count ≤ length p.packets.items };
 }
 
 impl Packets {
@@ -123,6 +129,7 @@ impl Packets {
     {
         Packets {
             packets: Vec::new(alloc),
+            count: 0,
         }
     }
 
@@ -132,7 +139,21 @@ impl Packets {
         ensures ok { OnOk result (self.new ≡ self.old ++ packet ∷ []) }
         ensures err { OnErr result (self.new ≡ self.old) }
     {
-        self.packets.push(packet)?;
+        self.push_bytes(packet.bytes())
+    }
+
+    /// Adds a packet of these bytes at the end. `NoMemory` where there is no room for it; the list
+    /// is then as it was.
+    pub fn push_bytes(&mut self, bytes: &[u8]) -> Result<(), NoMemory>
+        requires { length bytes.now ≤ MAX_PACKET_BYTES }
+        ensures ok { OnOk result (self.new ≡ self.old ++ bytes.now ∷ []) }
+        ensures err { OnErr result (self.new ≡ self.old) }
+    {
+        if self.count == self.packets.len() {
+            self.packets.push(Packet::new())?;
+        }
+        self.packets[self.count].put(bytes);
+        self.count += 1;
         Ok(())
     }
 
@@ -140,14 +161,14 @@ impl Packets {
     pub fn len(&self) -> usize
         ensures value { result ≡ length self.now }
     {
-        self.packets.len()
+        self.count
     }
 
     /// Whether there is no packet.
     pub fn is_empty(&self) -> bool
         ensures value { result ≡ (length self.now == 0) }
     {
-        self.packets.is_empty()
+        self.count == 0
     }
 
     /// The packet at this place, counted from 0.
@@ -162,6 +183,12 @@ impl Packets {
     pub fn clear(&mut self)
         ensures empty { self.new ≡ [] }
     {
-        self.packets.clear();
+        self.count = 0;
+    }
+}
+
+impl fmt::Debug for Packets {
+    fn fmt<W: fmt::Write>(&self, f: &mut fmt::Formatter<W>) -> fmt::Result {
+        fmt::Debug::fmt(&&self.packets[..self.count], f)
     }
 }

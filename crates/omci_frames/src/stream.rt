@@ -1,4 +1,5 @@
-//! A reader of a stream of baseline frames that comes in pieces. It holds at most one frame's bytes.
+//! A reader of a stream of baseline frames that comes in pieces. It holds at most one frame's
+//! bytes.
 
 ghost use Rattle.std.specs.Prelude.{◌≡◌, ◌↔◌, ◌≤◌, [], length, take, IsOk};
 ghost use Rattle.stream_spec.specs.Streams.{bytes_taken, with_bytes, after_take, first_reader};
@@ -11,8 +12,8 @@ use std::marker::Model;
 use stream_spec::{StreamFault, Taken};
 
 /// A reader of a stream of baseline frames. Bytes are offered to it in pieces of any length, and it
-/// gives the frames of the stream one after the other. Contracts see the bytes that it holds and the
-/// place of the first of them.
+/// gives the frames of the stream one after the other. Contracts see the bytes that it holds and
+/// the place of the first of them.
 #[derive(Debug, Drop)]
 pub struct Frames {
     bytes: [u8; FRAME_BYTES],
@@ -82,8 +83,8 @@ impl Frames {
         &self.bytes[..self.len]
     }
 
-    /// Takes as many bytes of the front of the piece as there is room for, and answers how many; none
-    /// where the bytes held show a fault. There is room for the 48 bytes of a frame.
+    /// Takes as many bytes of the front of the piece as there is room for, and answers how many;
+    /// none where the bytes held show a fault. There is room for the 48 bytes of a frame.
     pub fn feed(&mut self, piece: &[u8]) -> usize
         ensures count { result
             ≡ bytes_taken (front_of self.old.held) FRAME_BYTES self.old piece.now }
@@ -100,9 +101,9 @@ impl Frames {
         count
     }
 
-    /// The frame with which the bytes held begin, which are held no longer; `More` exactly where they
-    /// begin with no whole frame and show no fault; and else the fault, with the place of the first
-    /// byte held. A fault stands: each further call answers it again.
+    /// The frame with which the bytes held begin, which are held no longer; `More` exactly where
+    /// they begin with no whole frame and show no fault; and else the fault, with the place of the
+    /// first byte held. A fault stands: each further call answers it again.
     pub fn take(&mut self) -> Taken
         ensures value { result ≡ taken_from (front_of self.old.held) self.old.at }
         ensures after { self.new ≡ after_take (front_of self.old.held) self.old }
@@ -119,8 +120,8 @@ impl Frames {
     ///
     /// # Errors
     ///
-    /// The fault that the bytes held show, or [`FrameFault::Short`] with how many are held, also where
-    /// they are a whole frame that was not taken.
+    /// The fault that the bytes held show, or [`FrameFault::Short`] with how many are held, also
+    /// where they are a whole frame that was not taken.
     pub fn finish(&self) -> Result<(), StreamFault>
         ensures value { result ≡ finish_from (front_of self.now.held) self.now }
         ensures ok { IsOk result ↔ (self.now.held ≡ []) }

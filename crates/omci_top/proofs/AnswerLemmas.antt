@@ -9,8 +9,9 @@ use Rattle.script_spec.specs.Reading.{reading}
 use Rattle.script_laws.proofs.Scripts.{reading-Writes, reading_range}
 use Rattle.world_spec.specs.Trace.{trace}
 use Rattle.tci_spec.specs.Tci.{IsNumber}
-use Rattle.history_spec.specs.History.{Once, Answered, SyncedRight}
+use Rattle.history_spec.specs.History.{Once, Answered, SyncedRight, AuditedRight}
 use Rattle.world_spec.specs.History.{history_of}
+use Rattle.step_laws.specs.InStep.{ScriptInStep}
 use Rattle.omci_top.specs.Streams.{ReadsWhole}
 use Rattle.omci_top.specs.Texts.{input_text, answer_of, answer_to}
 use Rattle.omci_top.specs.declared.status.Status.{Status}
@@ -64,28 +65,75 @@ AnsweredLaw = (h : Header) (actions : List Action) → IsNumber h.low → IsNumb
 abbrev pub SyncedLaw : Type 0
 SyncedLaw = (h : Header) (actions : List Action) → IsNumber h.low → IsNumber h.high → All IsAction actions → SyncedRight (history_of h actions)
 
--- the numbers of a script's header and its lines are in their ranges, so the laws of the machine hold of its history
-laws_hold : OnceLaw → AnsweredLaw → SyncedLaw → (script : Script) (input : List ℕ) → Writes script input → Once (history_of script.header script.actions) × Answered (history_of script.header script.actions) × SyncedRight (history_of script.header script.actions)
-laws_hold once answered synced script input spelled =
+-- the law that each table is what its audit put by, and the notices since
+abbrev pub AuditedLaw : Type 0
+AuditedLaw =
+    (h : Header) (actions : List Action) → IsNumber h.low → IsNumber h.high → All IsAction actions
+    → AuditedRight (history_of h actions)
+
+-- the law that a manager in step and its unit keep step
+abbrev pub InStepLaw : Type 0
+InStepLaw =
+    (h : Header) (actions : List Action) → IsNumber h.low → IsNumber h.high → All IsAction actions
+    → ScriptInStep h actions
+
+-- what the laws of the machine say of a script
+pub record Lawful (script : Script) : Type 0 where
+  pub once : Once (history_of script.header script.actions)
+  pub answered : Answered (history_of script.header script.actions)
+  pub synced : SyncedRight (history_of script.header script.actions)
+  pub audited : AuditedRight (history_of script.header script.actions)
+  pub in_step : ScriptInStep script.header script.actions
+
+-- the numbers of a script's header and its lines are in their ranges, so the laws of the machine hold of it
+pub laws_hold : OnceLaw → AnsweredLaw → SyncedLaw → AuditedLaw → InStepLaw → (script : Script)
+    (input : List ℕ) → Writes script input → Lawful script
+laws_hold once answered synced audited in_step script input spelled =
     let ranges = reading_range input script (reading-Writes script input spelled) in
     let header = ranges.header in
     let low : IsNumber script.header.low = record { some = header.low_some; most = header.low_most } in
     let high : IsNumber script.header.high = record { some = header.high_some; most = header.high_most } in
-    (once script.header script.actions low high ranges.actions, answered script.header script.actions low high ranges.actions, synced script.header script.actions low high ranges.actions)
+    record {
+      once = once script.header script.actions low high ranges.actions;
+      answered = answered script.header script.actions low high ranges.actions;
+      synced = synced script.header script.actions low high ranges.actions;
+      audited = audited script.header script.actions low high ranges.actions;
+      in_step = in_step script.header script.actions low high ranges.actions;
+    }
 
 -- so the answer says of source and sink what it has to say
-pub AnswersReplay-ends : OnceLaw → AnsweredLaw → SyncedLaw → (s : Status) (world : Option State) (input : List ℕ) (left_before left_now written_before written_now : Option (List ℕ)) (read_before read_now write_before write_now : ℕ) → ReadsWhole 16777216 left_before left_now input → read_now ≡ read_before → Ends s world input written_before written_now write_before write_now → AnswersReplay s world left_before left_now written_before written_now read_before read_now write_before write_now
-AnswersReplay-ends once answered synced Done world input lb ln wb wn rb rn kb kn read same ends =
-    let laws = laws_hold once answered synced ends.0.0 input ends.0.1 in
-    (record { input = input; script = ends.0.0; read = read; spelled = ends.0.1; traced = ends.0.2; ended = ends.0.3; once = laws.0; answered = laws.1; synced = laws.2 }, same, ends.1)
-AnswersReplay-ends once answered synced Usage world input lb ln wb wn rb rn kb kn read same ends = elim ends [ ]
-AnswersReplay-ends once answered synced (Input place reason) world input lb ln wb wn rb rn kb kn read same ends =
+pub AnswersReplay-ends : ((script : Script) (input : List ℕ) → Writes script input → Lawful script)
+    → (s : Status) (world : Option State) (input : List ℕ)
+    (left_before left_now written_before written_now : Option (List ℕ))
+    (read_before read_now write_before write_now : ℕ) → ReadsWhole 16777216 left_before left_now input
+    → read_now ≡ read_before → Ends s world input written_before written_now write_before write_now
+    → AnswersReplay s world left_before left_now written_before written_now read_before read_now write_before write_now
+AnswersReplay-ends laws Done world input lb ln wb wn rb rn kb kn read same ends =
+    let k = laws ends.0.0 input ends.0.1 in (
+      record {
+        input = input;
+        script = ends.0.0;
+        read = read;
+        spelled = ends.0.1;
+        traced = ends.0.2;
+        ended = ends.0.3;
+        once = k.once;
+        answered = k.answered;
+        synced = k.synced;
+        audited = k.audited;
+        in_step = k.in_step;
+      },
+      same,
+      ends.1,
+    )
+AnswersReplay-ends laws Usage world input lb ln wb wn rb rn kb kn read same ends = elim ends [ ]
+AnswersReplay-ends laws (Input place reason) world input lb ln wb wn rb rn kb kn read same ends =
     (record { input = input; read = read; faulty = ends.0; told = ends.1 }, same, ends.2)
-AnswersReplay-ends once answered synced ReadFault world input lb ln wb wn rb rn kb kn read same ends = elim ends [ ]
-AnswersReplay-ends once answered synced WriteFault world input lb ln wb wn rb rn kb kn read same ends =
+AnswersReplay-ends laws ReadFault world input lb ln wb wn rb rn kb kn read same ends = elim ends [ ]
+AnswersReplay-ends laws WriteFault world input lb ln wb wn rb rn kb kn read same ends =
     (record { input = input; read = read; front = ends.0 }, same, ends.1)
-AnswersReplay-ends once answered synced DiskFault world input lb ln wb wn rb rn kb kn read same ends = elim ends [ ]
-AnswersReplay-ends once answered synced TooLong world input lb ln wb wn rb rn kb kn read same ends = elim ends [ ]
-AnswersReplay-ends once answered synced NoMemory world input lb ln wb wn rb rn kb kn read same ends =
+AnswersReplay-ends laws DiskFault world input lb ln wb wn rb rn kb kn read same ends = elim ends [ ]
+AnswersReplay-ends laws TooLong world input lb ln wb wn rb rn kb kn read same ends = elim ends [ ]
+AnswersReplay-ends laws NoMemory world input lb ln wb wn rb rn kb kn read same ends =
     (inr (record { input = input; read = read; front = ends.0 }), same, ends.1)
-AnswersReplay-ends once answered synced TooLarge world input lb ln wb wn rb rn kb kn read same ends = elim ends [ ]
+AnswersReplay-ends laws TooLarge world input lb ln wb wn rb rn kb kn read same ends = elim ends [ ]

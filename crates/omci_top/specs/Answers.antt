@@ -7,8 +7,9 @@ use Rattle.script_spec.specs.Grammar.{Writes}
 use Rattle.script_spec.specs.Fault.{fault}
 use Rattle.world_spec.specs.Nodes.{first_nodes, nodes_after}
 use Rattle.world_spec.specs.Trace.{trace}
-use Rattle.history_spec.specs.History.{Once, Answered, SyncedRight}
+use Rattle.history_spec.specs.History.{Once, Answered, SyncedRight, AuditedRight}
 use Rattle.world_spec.specs.History.{history_of}
+use Rattle.step_laws.specs.InStep.{ScriptInStep}
 use Rattle.omci_top.specs.Streams.{ReadsWhole, ReadsPast}
 use Rattle.link_replay.specs.Seen.{State, sound, seen_of}
 use Rattle.link_replay.specs.Writing.{WritesFront}
@@ -62,8 +63,10 @@ Ends WriteFault world input before now faults_before faults_now =
 Ends _ world input before now faults_before faults_now = ⊥
 
 -- The source was read to its end, its bytes spell a script, the script's trace was written, and the world ran all its events. In
--- this script's history no command is carried out twice, each reply taken is its command's own, and the copy of each
--- resynchronisation is what its upload put by.
+-- this script's history no command is carried out twice, each reply taken is its command's own, the copy of each
+-- resynchronisation is what its upload put by, and the table of each audit is the alarms that it put by, followed by the notices
+-- that were taken since. After each line of it a manager in step has a copy with which the database of the
+-- unit agrees, as long as the unit lives, but for one change that is outstanding.
 pub record Replays (world : Option State) (left_before left_now written_before written_now : Option (List ℕ)) : Type 0 where
   pub input : List ℕ
   pub script : Script
@@ -74,6 +77,8 @@ pub record Replays (world : Option State) (left_before left_now written_before w
   pub once : Once (history_of script.header script.actions)
   pub answered : Answered (history_of script.header script.actions)
   pub synced : SyncedRight (history_of script.header script.actions)
+  pub audited : AuditedRight (history_of script.header script.actions)
+  pub in_step : ScriptInStep script.header script.actions
 
 -- The source was read to its end, its bytes have this first fault, and the one line that says so was written.
 pub record Refuses (place reason : ℕ) (left_before left_now written_before written_now : Option (List ℕ)) : Type 0 where

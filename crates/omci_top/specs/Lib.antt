@@ -3,3 +3,4 @@ pub mod Streams
 pub mod Texts
 pub mod Answers
 pub mod Flashes
+pub mod Shows

@@ -1,7 +1,7 @@
 //! The top call of the program: what each command line does with the source, the sink and the disk.
 #![tactic(auto)]
 
-ghost use Rattle.std.specs.Prelude.{◌≡◌, ◌≢◌, ◌↔◌, ◌<◌, ◌≤◌, ℕ, List, Some, None, length};
+ghost use Rattle.std.specs.Prelude.{◌≡◌, ◌≢◌, ◌↔◌, ◌<◌, ◌≤◌, ℕ, List, [], Some, None, length};
 ghost use Rattle.omci_core.specs.Causes.{Rose};
 ghost use Rattle.script_spec.specs.Script.{Script};
 ghost use Rattle.script_spec.specs.Grammar.{Writes};
@@ -9,10 +9,14 @@ ghost use Rattle.script_spec.specs.Fault.{fault};
 ghost use Rattle.omci_top.specs.Commands.{command_of};
 ghost use Rattle.omci_top.specs.Answers.{AnswersReplay};
 ghost use Rattle.omci_top.specs.Flashes.{AnswersFlash, IsTooLarge};
+ghost use Rattle.extended_spec.specs.Frames.{Any};
+ghost use Rattle.show_spec.specs.Shown.{Passes, none_refused, no_message_refused};
+ghost use Rattle.omci_top.specs.Shows.{AnswersShow, AnswersCheck, HasFault, HasNoFault};
 
 mod command;
 mod flash;
 mod replay;
+mod show;
 mod status;
 mod streams;
 
@@ -37,8 +41,10 @@ pub struct End<D: Disk> {
 }
 
 /// Does what the words ask for. With `replay` a script is read whole from the source and run over
-/// both ends, and its trace is written to the sink. With `flash FILE` an image is read whole from the
-/// source, and the disk of that name becomes one of two slots with the image in slot 0.
+/// both ends, and its trace is written to the sink. With `show` a stream of frames of both message
+/// sets is read from the source, and the text of each frame is written; with `check` its frames are
+/// counted. With `flash FILE` an image is read whole from the source, and the disk of that name
+/// becomes one of two slots with the image in slot 0.
 pub fn omci<S: Source, K: Sink, D: Disk>(
     alloc: Global,
     words: &Words,
@@ -52,6 +58,12 @@ pub fn omci<S: Source, K: Sink, D: Disk>(
         → AnswersReplay result.status result.world
         (S.left source.old) (S.left source.new) (K.written sink.old) (K.written sink.new)
         (S.faults source.old) (S.faults source.new) (K.faults sink.old) (K.faults sink.new) }
+    ensures show { command_of words.now ≡ Some Command.Show → AnswersShow result.status
+        (S.left source.old) (S.left source.new) (K.written sink.old) (K.written sink.new)
+        (S.faults source.old) (S.faults source.new) (K.faults sink.old) (K.faults sink.new) }
+    ensures check { command_of words.now ≡ Some Command.Check → AnswersCheck result.status
+        (S.left source.old) (S.left source.new) (K.written sink.old) (K.written sink.new)
+        (S.faults source.old) (S.faults source.new) (K.faults sink.old) (K.faults sink.new) }
     ensures flash { command_of words.now ≡ Some Command.Flash
         → AnswersFlash D.seen D.may_leave D.rig D.faults result.status disk result.disk
         (S.left source.old) (S.left source.new) (S.faults source.old) (S.faults source.new) }
@@ -63,11 +75,13 @@ pub fn omci<S: Source, K: Sink, D: Disk>(
     ensures no_world { result.status ≢ Status.Done → result.world ≡ None }
     ensures flash_world { command_of words.now ≢ Some Command.Replay → result.world ≡ None }
 
-    // A sink is untouched where there is nothing to write, and the disk with a replay.
-    ensures read_fault_sink { result.status ≡ Status.ReadFault → sink.new ≡ sink.old }
-    ensures too_long_sink { result.status ≡ Status.TooLong → sink.new ≡ sink.old }
+    // A sink is untouched where there is nothing to write, and the disk but for a flash.
+    ensures read_fault_sink { command_of words.now ≢ Some Command.Show
+        → result.status ≡ Status.ReadFault → sink.new ≡ sink.old }
+    ensures too_long_sink { command_of words.now ≢ Some Command.Show
+        → result.status ≡ Status.TooLong → sink.new ≡ sink.old }
     ensures flash_sink { command_of words.now ≡ Some Command.Flash → sink.new ≡ sink.old }
-    ensures replay_disk { command_of words.now ≡ Some Command.Replay → result.disk ≡ disk }
+    ensures other_disk { command_of words.now ≢ Some Command.Flash → result.disk ≡ disk }
 
     // A fault has its cause, and where none is answered there was none.
     ensures read_fault { result.status ≡ Status.ReadFault
@@ -102,7 +116,46 @@ pub fn omci<S: Source, K: Sink, D: Disk>(
         → ¬ Rose (S.faults source.old) (S.faults source.new)
         → result.status ≢ Status.NoMemory → result.status ≡ Status.TooLong }
 
-    // Likewise an image of 1 to 1,048,576 bytes is flashed, another one is too large, and more than
+    // Likewise a stream of frames of which none is refused is shown or counted to its end, the first
+    // fault within 16,777,216 bytes is told, and where there is none more bytes are too long.
+    ensures show_runs { (frames : List Any) (bytes : List ℕ)
+        → command_of words.now ≡ Some Command.Show → S.left source.old ≡ Some bytes
+        → length bytes ≤ 16777216 → Passes none_refused bytes frames []
+        → ¬ Rose (S.faults source.old) (S.faults source.new)
+        → ¬ Rose (K.faults sink.old) (K.faults sink.new)
+        → result.status ≢ Status.NoMemory → result.status ≡ Status.Done }
+    ensures show_refuses { (frames : List Any) (place reason : ℕ) (bytes : List ℕ)
+        → command_of words.now ≡ Some Command.Show → S.left source.old ≡ Some bytes
+        → HasFault none_refused bytes frames place reason
+        → ¬ Rose (S.faults source.old) (S.faults source.new)
+        → ¬ Rose (K.faults sink.old) (K.faults sink.new)
+        → result.status ≢ Status.NoMemory → result.status ≡ Status.Input place reason }
+    ensures show_stops { (frames : List Any) (bytes : List ℕ)
+        → command_of words.now ≡ Some Command.Show → S.left source.old ≡ Some bytes
+        → 16777216 < length bytes → HasNoFault none_refused bytes frames
+        → ¬ Rose (S.faults source.old) (S.faults source.new)
+        → ¬ Rose (K.faults sink.old) (K.faults sink.new)
+        → result.status ≢ Status.NoMemory → result.status ≡ Status.TooLong }
+    ensures check_runs { (frames : List Any) (bytes : List ℕ)
+        → command_of words.now ≡ Some Command.Check → S.left source.old ≡ Some bytes
+        → length bytes ≤ 16777216 → Passes no_message_refused bytes frames []
+        → ¬ Rose (S.faults source.old) (S.faults source.new)
+        → ¬ Rose (K.faults sink.old) (K.faults sink.new)
+        → result.status ≢ Status.NoMemory → result.status ≡ Status.Done }
+    ensures check_refuses { (frames : List Any) (place reason : ℕ) (bytes : List ℕ)
+        → command_of words.now ≡ Some Command.Check → S.left source.old ≡ Some bytes
+        → HasFault no_message_refused bytes frames place reason
+        → ¬ Rose (S.faults source.old) (S.faults source.new)
+        → ¬ Rose (K.faults sink.old) (K.faults sink.new)
+        → result.status ≢ Status.NoMemory → result.status ≡ Status.Input place reason }
+    ensures check_stops { (frames : List Any) (bytes : List ℕ)
+        → command_of words.now ≡ Some Command.Check → S.left source.old ≡ Some bytes
+        → 16777216 < length bytes → HasNoFault no_message_refused bytes frames
+        → ¬ Rose (S.faults source.old) (S.faults source.new)
+        → ¬ Rose (K.faults sink.old) (K.faults sink.new)
+        → result.status ≢ Status.NoMemory → result.status ≡ Status.TooLong }
+
+    // And an image of 1 to 1,048,576 bytes is flashed, another one is too large, and more than
     // 16,777,216 bytes are too long.
     ensures flash_runs { (image : List ℕ)
         → command_of words.now ≡ Some Command.Flash → S.left source.old ≡ Some image
@@ -131,6 +184,22 @@ pub fn omci<S: Source, K: Sink, D: Disk>(
             }
         }
         Some(Command::Flash) => flash::flash(alloc, words.word(1), source, disk),
+        Some(Command::Show) => {
+            let status = show::show(alloc, source, sink);
+            End {
+                status,
+                disk,
+                world: None,
+            }
+        }
+        Some(Command::Check) => {
+            let status = show::check(alloc, source, sink);
+            End {
+                status,
+                disk,
+                world: None,
+            }
+        }
         None => End {
             status: Status::Usage,
             disk,

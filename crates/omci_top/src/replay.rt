@@ -9,12 +9,14 @@ ghost use Rattle.omci_top.specs.Answers.{Ran, Told, Ends, AnswersReplay, world_a
 
 use crate::status::Status;
 use crate::streams::{InputFault, read_whole};
+use audit_laws::audits_are_snapshots;
 use link_replay::{RunFault, World, write_all};
 use omci_contents::{push_bytes, push_number};
 use omci_core::{NoMemory, Sink, Source};
 use replay_script::{Script, ScriptRefusal, read};
 use resync_laws::copies_are_snapshots;
 use std::alloc::Global;
+use step_laws::copies_keep_step;
 use world_laws::commands_act_once;
 
 /// How a replay ended: the world that ran the events of its script comes with `Done` alone.
@@ -95,7 +97,7 @@ fn run_script<K: Sink>(alloc: Global, script: &Script, sink: &mut K) -> Replayed
 }
 
 /// Says where the input's first fault stands.
-fn tell_fault<K: Sink>(alloc: Global, place: u64, reason: u8, sink: &mut K) -> Status
+pub(crate) fn tell_fault<K: Sink>(alloc: Global, place: u64, reason: u8, sink: &mut K) -> Status
     ensures ran { Told result place reason
         (K.written sink.old) (K.written sink.new) (K.faults sink.old) (K.faults sink.new) }
 {
@@ -135,6 +137,8 @@ pub fn replay<S: Source, K: Sink>(alloc: Global, source: &mut S, sink: &mut K) -
 {
     commands_act_once();
     copies_are_snapshots();
+    audits_are_snapshots();
+    copies_keep_step();
     match read_whole(alloc, source) {
         Ok(input) => answer(alloc, input, sink),
         Err(InputFault::Read) => without_world(Status::ReadFault),

@@ -1,9 +1,9 @@
 -- The kept replies of a unit are whole frames.
-use Rattle.std.proofs.Common.{◌≡◌, ℕ, Bool, true, false, List, length, Option, Some, None, IfSome, if◌then◌else◌, ap, subst, sym, cond}
+use Rattle.std.proofs.Common.{◌≡◌, ℕ, Bool, true, false, List, length, Option, Some, None, IfSome, if◌then◌else◌, subst}
 use Rattle.omci_types.specs.declared.Priority.{Priority}
 use Rattle.omci_types.specs.declared.Priority.TheVariants.{Low, High}
 use Rattle.tci_spec.specs.Tci.{priority_of}
-use Rattle.retry_spec.specs.Kept.{Reply, Kept, nothing_kept, kept_in, keep_in, if_answers, kept_for, kept_with}
+use Rattle.retry_spec.specs.Kept.{Reply, Kept, kept_in, keep_in, if_answers, kept_for, kept_with}
 use Rattle.onu_agent.specs.State.{AreFrames}
 
 in_lane : (p : Priority) (k : Kept) → AreFrames k → IfSome (kept_in p k) (λ r. length r.packet ≡ 48)

@@ -1,19 +1,12 @@
-//! What the unit does with a request that it carries out.
+//! What kind of request a message is, and the frames of responses.
 
 ghost use Rattle.std.specs.Prelude.{◌≡◌};
 ghost use Rattle.message_spec.specs.Reading.{ResponseWindow};
-ghost use Rattle.message_spec.specs.declared.Response.TheVariants as response;
-ghost use Rattle.mib_spec.specs.Requests.{unless_refused, set_outcome, get_outcome, reset_code, reset as reset_of};
-ghost use Rattle.unit_spec.specs.Onu.{response_frame, refusal_frame, asks_nothing, has_request_bits, code};
+ghost use Rattle.unit_spec.specs.Onu.{response_frame, refusal_frame, asks_nothing, has_request_bits};
 
-use entity_classes::class;
-use mib_store::{Mask, Mib};
 use omci_contents::{Message, Request, Response, write_message};
-use omci_core::{Code, EntityId, NoMemory};
+use omci_core::Code;
 use omci_frames::Frame;
-
-/// The class of ONU data.
-const ONU_DATA: u16 = 2;
 
 /// AR in a type byte less AK.
 const AR_LESS_AK: u8 = 0x20;
@@ -48,55 +41,6 @@ pub fn refusal_of(frame: &Frame) -> Frame
         kind: frame.kind.saturating_sub(AR_LESS_AK),
         contents,
         ..*frame
-    }
-}
-
-/// Makes the database the first one, where the entity is ONU data 0.
-#[tactic(auto, unfolding(mib_spec::specs::Requests::reset_code))]
-pub fn reset_for(mib: &mut Mib, entity: EntityId) -> Code
-    ensures code { result.0 ≡ reset_code entity }
-    ensures after { mib.new ≡ unless_refused (reset_code entity) (reset_of mib.old) mib.old }
-{
-    if class(entity.class).is_none() {
-        return Code::UNKNOWN_CLASS;
-    }
-    if entity.class != ONU_DATA {
-        return Code::NOT_SUPPORTED;
-    }
-    if entity.instance != 0 {
-        return Code::UNKNOWN_INSTANCE;
-    }
-    mib.reset();
-    Code::SUCCESS
-}
-
-/// Stores values in the database.
-pub fn set_for(mib: &mut Mib, entity: EntityId, mask: u16, values: &[u8; 30]) -> Response
-    ensures response { result ≡ (let o = set_outcome entity mask values.now mib.old in
-        response.Set (code o.code) o.unsupported o.failed) }
-    ensures after { mib.new ≡ (set_outcome entity mask values.now mib.old).database }
-{
-    let done = mib.set(entity, Mask(mask), values);
-    Response::Set {
-        code: done.code,
-        unsupported: done.unsupported.0,
-        failed: done.failed.0,
-    }
-}
-
-/// Reads values from the database.
-pub fn get_for(mib: &Mib, entity: EntityId, mask: u16) -> Response
-    ensures response { result ≡ (let o = get_outcome entity mask mib.now in
-        response.Get (code o.code) o.mask o.values o.unsupported 0) }
-{
-    let found = mib.get(entity, Mask(mask));
-    let values = found.values;
-    Response::Get {
-        code: found.code,
-        mask: found.mask.0,
-        values,
-        unsupported: found.unsupported.0,
-        failed: 0,
     }
 }
 

@@ -1,30 +1,40 @@
-//! The unit itself: its database, for each priority the reply that it gave last, and what it put by for an upload.
+//! The unit itself: its database, for each priority the reply that it gave last, its alarms, and what it put by for an upload
+//! and for an audit.
 
 ghost use Rattle.std.specs.Prelude.{◌≡◌, ◌≢◌, ◌≤◌, length, Bool, true, Option, option_copied, IfOk, OnOk, OnErr, is_some, Some, None, Ok, []};
 ghost use Rattle.frame_spec.specs.Baseline.{spelling};
 ghost use Rattle.message_spec.specs.declared.Message.TheVariants as message;
 ghost use Rattle.retry_spec.specs.Kept.{kept_for, kept_with};
 ghost use Rattle.unit_spec.specs.declared.Did.TheVariants as did;
-ghost use Rattle.unit_spec.specs.Onu.{onu_started, onu_received, onu_ticked, answer, upload, next_piece, fresh_again, second_older, not_supported, asks_nothing, take_request, keep_reply, for_message, unless_quiet, if_request, has_request_bits, takes_room, message_takes, takes_memory};
-ghost use Rattle.onu_agent.specs.State.{reception};
+ghost use Rattle.unit_spec.specs.declared.Noticed.TheVariants as noticed;
+ghost use Rattle.unit_spec.specs.Noticing.{onu_sensed, onu_alarmed, alarm_takes};
+ghost use Rattle.unit_spec.specs.Onu.{onu_started, onu_received, onu_ticked, answer, upload, next_piece, fresh_again, second_older, get_alarms, next_row, alarms_fresh_again, alarms_second_older, not_supported, asks_nothing, take_request, keep_reply, for_message, unless_quiet, if_request, has_request_bits, takes_room, message_takes, takes_memory};
+ghost use Rattle.onu_agent.specs.State.{reception, noticing};
 
-use crate::requests::{get_for, is_quiet, is_request, refusal_of, reset_for, response_to, set_for};
+use crate::alarms::Alarms;
+use crate::audit::Audit;
+use crate::notices::{give_notice, value_notice};
+use crate::requests::{is_quiet, is_request, refusal_of, response_to};
+use crate::store::Store;
 use crate::upload::Upload;
-use mib_store::Mib;
+use alarm_spec::{BITMAP_BYTES, ROW_BYTES};
+use mib_spec::Sensed;
 use omci_contents::{ContentsFault, Message, Request, Response, read_message};
-use omci_core::{NoMemory, Packet, Software};
+use omci_core::{EntityId, NoMemory, Packet, Software};
 use omci_frames::{Frame, encode, packet_frame};
 use retry_cache::Kept;
 use std::alloc::Global;
 use std::marker::Model;
-use unit_spec::{Did, Note};
+use unit_spec::{Did, Note, Noticed};
 
 #[derive(Drop)]
 pub struct Unit {
     alloc: Global,
-    mib: Mib,
+    store: Store,
     kept: Kept,
     upload: Option<Upload>,
+    alarms: Alarms,
+    audit: Option<Audit>,
 }
 
 /// What carrying a request out came to: the response's frame, and what else is told of it.
@@ -40,22 +50,30 @@ impl Model for Unit {
 
     ghost Value = { Onu };
 
-    ghost view = { λ u. record { database = u.mib; kept = u.kept; snapshot = u.upload } };
+    ghost view = { λ u. record {
+      database = u.store;
+      kept = u.kept;
+      snapshot = u.upload;
+      log = u.alarms;
+      alarm_snapshot = u.audit;
+    } };
 
     ghost invariant = { λ u. AreFrames u.kept };
 }
 
 impl Unit {
-    /// A unit that starts with this software: the first database, nothing kept, and nothing put by.
+    /// A unit that starts with this software: the first database, nothing kept, no alarms, and nothing put by.
     #[tactic(auto, unfolding(unit_spec::specs::Onu::onu_started))]
     pub fn start(alloc: Global, software: Software) -> Result<Unit, NoMemory>
         ensures started { IfOk result (λ u. u ≡ onu_started software) }
     {
         Ok(Unit {
             alloc,
-            mib: Mib::new(alloc, software)?,
+            store: Store::start(alloc, software)?,
             kept: Kept::new(),
             upload: None,
+            alarms: Alarms::new(alloc),
+            audit: None,
         })
     }
 
@@ -174,17 +192,16 @@ impl Unit {
             Request::UploadNext { number } => Response::UploadNext {
                 piece: self.next_piece(*number),
             },
-            Request::Create { values } => Response::Create {
-                code: self.mib.create(frame.entity, values)?,
-                mask: 0,
+            Request::Alarms { .. } => return self.put_alarms_by(frame),
+            Request::AlarmsNext { number } => Response::AlarmsNext {
+                row: self.next_row(*number),
             },
-            Request::Delete => Response::Delete {
-                code: self.mib.delete(frame.entity),
-            },
-            Request::Set { mask, values } => set_for(&mut self.mib, frame.entity, *mask, values),
-            Request::Get { mask } => get_for(&self.mib, frame.entity, *mask),
+            Request::Create { values } => self.store.create(frame.entity, values)?,
+            Request::Delete => self.store.delete(frame.entity),
+            Request::Set { mask, values } => self.store.set(frame.entity, *mask, values),
+            Request::Get { mask } => self.store.get(frame.entity, *mask),
             Request::Reset => Response::Reset {
-                code: reset_for(&mut self.mib, frame.entity),
+                code: self.store.reset(frame.entity),
             },
             _ => return Ok(plain_deed(refusal_of(frame))),
         };
@@ -197,7 +214,7 @@ impl Unit {
         ensures note { IfOk result (λ deed. deed.note ≡ (upload frame.now self.old).note) }
         ensures after { OnOk result (self.new ≡ (upload frame.now self.old).unit) }
     {
-        let taken = Upload::of(self.alloc, &self.mib)?;
+        let taken = Upload::of(self.alloc, self.store.mib())?;
         let response = Response::Upload {
             count: taken.count(),
         };
@@ -220,10 +237,94 @@ impl Unit {
         }
     }
 
+    /// Puts the alarms by for an audit. What was put by before is dropped.
+    fn put_alarms_by(&mut self, frame: &Frame) -> Result<Deed, NoMemory>
+        ensures reply { IfOk result (λ deed. deed.reply ≡ (get_alarms frame.now self.old).reply) }
+        ensures note { IfOk result (λ deed. deed.note ≡ (get_alarms frame.now self.old).note) }
+        ensures after { OnOk result (self.new ≡ (get_alarms frame.now self.old).unit) }
+    {
+        let taken = Audit::of(&mut self.alarms)?;
+        let rows = taken.count();
+        self.audit = Some(taken);
+        Ok(Deed {
+            reply: response_to(frame, Response::Alarms { count: rows }),
+            note: Some(Note::Alarms { rows }),
+        })
+    }
+
+    /// The row of that number of the alarms that were put by, or zeros.
+    fn next_row(&mut self, number: u16) -> [u8; ROW_BYTES]
+        ensures value { result ≡ next_row number self.old.alarm_snapshot }
+        ensures after { self.new ≡ record self.old { alarm_snapshot = alarms_fresh_again self.old.alarm_snapshot } }
+    {
+        match &mut self.audit {
+            Some(audit) => audit.row(number),
+            None => [0; ROW_BYTES],
+        }
+    }
+
+    /// The unit measured a value. `out` is the notice of it, and empty where there is none.
+    #[tactic(auto, unfolding(unit_spec::specs::Noticing::onu_sensed))]
+    pub fn sense(&mut self, entity: EntityId, number: u8, value: &[u8], out: &mut Packet) -> Noticed
+        ensures sensed { noticing self.new result out.new ≡ onu_sensed entity number value.now self.old }
+        ensures whole { result ≡ noticed.Sent → length out.new ≡ 48 }
+    {
+        out.clear();
+        match self.store.sense(entity, number, value) {
+            Sensed::NotAllowed => Noticed::NotAllowed,
+            Sensed::Same => Noticed::Same,
+            Sensed::Changed => {
+                give_notice(entity, value_notice(number, value), out);
+                Noticed::Sent
+            }
+        }
+    }
+
+    /// The entity's alarms are these from now on. `out` is the notice of it, and empty where there is none.
+    #[tactic(auto, unfolding(unit_spec::specs::Noticing::onu_alarmed))]
+    pub fn alarm(
+        &mut self,
+        entity: EntityId,
+        bitmap: [u8; BITMAP_BYTES],
+        out: &mut Packet,
+    ) -> Result<Noticed, NoMemory>
+        ensures alarmed { IfOk result (λ n. noticing self.new n out.new ≡ onu_alarmed entity bitmap self.old) }
+        ensures whole { IfOk result (λ n. n ≡ noticed.Sent → length out.new ≡ 48) }
+        ensures memory { OnErr result (alarm_takes entity bitmap self.old ≡ true) }
+    {
+        out.clear();
+        if !self.store.may_alarm(entity) {
+            return Ok(Noticed::NotAllowed);
+        }
+        match self.alarms.change(entity, bitmap)? {
+            None => Ok(Noticed::Same),
+            Some(notice) => {
+                give_notice(entity, notice, out);
+                Ok(Noticed::Sent)
+            }
+        }
+    }
+
+    /// How many entities have an alarm.
+    pub fn alarms(&self) -> usize
+        ensures count { result ≡ length self.now.log.alarms }
+        ensures most { result ≤ 7 }
+    {
+        self.alarms.len()
+    }
+
     /// A second passes: what was put by is a second older, or is dropped.
     #[tactic(auto, unfolding(unit_spec::specs::Onu::onu_ticked))]
     pub fn tick(&mut self)
         ensures ticked { self.new ≡ onu_ticked self.old }
+    {
+        self.tick_upload();
+        self.tick_audit();
+    }
+
+    /// What was put by for an upload is a second older, or is dropped.
+    fn tick_upload(&mut self)
+        ensures ticked { self.new ≡ record self.old { snapshot = second_older self.old.snapshot } }
     {
         let Some(upload) = &mut self.upload else {
             return;
@@ -232,6 +333,20 @@ impl Unit {
             self.upload = None;
         } else {
             upload.grow_older();
+        }
+    }
+
+    /// What was put by for an audit is a second older, or is dropped.
+    fn tick_audit(&mut self)
+        ensures ticked { self.new ≡ record self.old { alarm_snapshot = alarms_second_older self.old.alarm_snapshot } }
+    {
+        let Some(audit) = &mut self.audit else {
+            return;
+        };
+        if audit.is_over() {
+            self.audit = None;
+        } else {
+            audit.grow_older();
         }
     }
 }

@@ -2,10 +2,10 @@
 use Rattle.script_spec.specs.Script as spec
 use Rattle.replay_script.specs.declared.script.Event.{Event}
 use Rattle.replay_script.specs.declared.script.Event.TheVariants.{Probe, Reset, Get, Create, Set}
-use Rattle.replay_script.specs.declared.script.Event.TheVariants.{Delete, Resync, Check, Deliver}
-use Rattle.replay_script.specs.declared.script.Event.TheVariants.{Flow, NoiseUnit, NoiseOlt, Tick}
-use Rattle.replay_script.specs.declared.script.Event.TheVariants.{CutUnit, CutOlt, StartUnit}
-use Rattle.replay_script.specs.declared.script.Event.TheVariants.{StartOlt}
+use Rattle.replay_script.specs.declared.script.Event.TheVariants.{Delete, Resync, Audit, Check}
+use Rattle.replay_script.specs.declared.script.Event.TheVariants.{Deliver, Flow, NoiseUnit, NoiseOlt}
+use Rattle.replay_script.specs.declared.script.Event.TheVariants.{Tick, Sense, Alarm, CutUnit}
+use Rattle.replay_script.specs.declared.script.Event.TheVariants.{CutOlt, StartUnit, StartOlt}
 use Rattle.replay_script.specs.declared.script.Header.{Header}
 
 abbrev pub action_of : Event → spec.Action
@@ -16,12 +16,15 @@ action_of (Create lane entity values) = spec.Create lane entity values
 action_of (Set lane entity mask values) = spec.Set lane entity mask values
 action_of (Delete lane entity) = spec.Delete lane entity
 action_of Resync = spec.Resync
+action_of Audit = spec.Audit
 action_of Check = spec.Check
 action_of (Deliver packet) = spec.Deliver packet
 action_of (Flow times) = spec.Flow times
 action_of (NoiseUnit bytes) = spec.NoiseUnit bytes
 action_of (NoiseOlt bytes) = spec.NoiseOlt bytes
 action_of Tick = spec.Tick
+action_of (Sense entity number value) = spec.Sense entity number value
+action_of (Alarm entity bitmap) = spec.Alarm entity bitmap
 action_of CutUnit = spec.CutUnit
 action_of CutOlt = spec.CutOlt
 action_of StartUnit = spec.StartUnit

@@ -9,7 +9,9 @@ use crate::refusal::LineRefusal;
 use crate::script::Event;
 use crate::words::LineWords;
 use omci_core::EntityId;
-use script_spec::{LAST_PACKET, Line, MAX_CREATE, MAX_FLOW, MAX_SET};
+use script_spec::{
+    LAST_PACKET, Line, MAX_ATTRIBUTE, MAX_BITMAP, MAX_CREATE, MAX_FLOW, MAX_SENSED, MAX_SET,
+};
 use std::alloc::Global;
 
 /// The event that a line of these words asks for.
@@ -26,12 +28,15 @@ pub(crate) fn event_of(alloc: Global, mut words: LineWords<'_>) -> Result<Event,
         Line::Set => set_event(alloc, words),
         Line::Delete => delete_event(words),
         Line::Resync => resync_event(words),
+        Line::Audit => audit_event(words),
         Line::Check => check_event(words),
         Line::Deliver => deliver_event(words),
         Line::Flow => flow_event(words),
         Line::NoiseUnit => noise_unit_event(alloc, words),
         Line::NoiseOlt => noise_olt_event(alloc, words),
         Line::Tick => tick_event(words),
+        Line::Sense => sense_event(alloc, words),
+        Line::Alarm => alarm_event(alloc, words),
         Line::CutUnit => cut_unit_event(words),
         Line::CutOlt => cut_olt_event(words),
         Line::StartUnit => start_unit_event(words),
@@ -134,6 +139,15 @@ fn resync_event(words: LineWords<'_>) -> Result<Event, LineRefusal>
     Ok(Event::Resync)
 }
 
+/// No word stands after `audit`.
+#[tactic(auto, unfolding(script_spec::specs::Reading::action_at))]
+fn audit_event(words: LineWords<'_>) -> Result<Event, LineRefusal>
+    ensures value { Gives action_of result (action_at Line.Audit words.entry) }
+{
+    words.expect(0)?;
+    Ok(Event::Audit)
+}
+
 /// No word stands after `check`.
 #[tactic(auto, unfolding(script_spec::specs::Reading::action_at))]
 fn check_event(words: LineWords<'_>) -> Result<Event, LineRefusal>
@@ -194,6 +208,37 @@ fn tick_event(words: LineWords<'_>) -> Result<Event, LineRefusal>
 {
     words.expect(0)?;
     Ok(Event::Tick)
+}
+
+/// The words after `sense`: CLASS INSTANCE ATTRIBUTE HEX.
+#[tactic(auto, unfolding(script_spec::specs::Reading::action_at))]
+fn sense_event(alloc: Global, mut words: LineWords<'_>) -> Result<Event, LineRefusal>
+    ensures value { Gives action_of result (action_at Line.Sense words.entry) }
+{
+    words.expect(4)?;
+    Ok(Event::Sense {
+        entity: EntityId {
+            class: words.id()?,
+            instance: words.id()?,
+        },
+        number: words.number(1, MAX_ATTRIBUTE)? as u8,
+        value: words.bytes(alloc, 1, MAX_SENSED)?,
+    })
+}
+
+/// The words after `alarm`: CLASS INSTANCE HEX.
+#[tactic(auto, unfolding(script_spec::specs::Reading::action_at))]
+fn alarm_event(alloc: Global, mut words: LineWords<'_>) -> Result<Event, LineRefusal>
+    ensures value { Gives action_of result (action_at Line.Alarm words.entry) }
+{
+    words.expect(3)?;
+    Ok(Event::Alarm {
+        entity: EntityId {
+            class: words.id()?,
+            instance: words.id()?,
+        },
+        bitmap: words.bytes(alloc, 0, MAX_BITMAP)?,
+    })
 }
 
 /// No word stands after `cut unit`.

@@ -67,12 +67,19 @@ fn put_event(alloc: Global, out: &mut Vec<u8>, event: &Event) -> Result<(), NoMe
         } => put_set(alloc, out, *lane, *entity, *mask, values.bytes()),
         Event::Delete { lane, entity } => put_delete(out, *lane, *entity),
         Event::Resync => put(out, b"resync\n"),
+        Event::Audit => put(out, b"audit\n"),
         Event::Check => put(out, b"check\n"),
         Event::Deliver { packet } => put_deliver(out, *packet),
         Event::Flow { times } => put_flow(out, u64::from(*times)),
         Event::NoiseUnit { bytes } => put_noise_unit(alloc, out, bytes.bytes()),
         Event::NoiseOlt { bytes } => put_noise_olt(alloc, out, bytes.bytes()),
         Event::Tick => put(out, b"tick\n"),
+        Event::Sense {
+            entity,
+            number,
+            value,
+        } => put_sense(alloc, out, *entity, *number, value.bytes()),
+        Event::Alarm { entity, bitmap } => put_alarm(alloc, out, *entity, bitmap.bytes()),
         Event::CutUnit => put(out, b"cut unit\n"),
         Event::CutOlt => put(out, b"cut olt\n"),
         Event::StartUnit => put(out, b"start unit\n"),
@@ -208,6 +215,46 @@ fn put_noise_olt(alloc: Global, out: &mut Vec<u8>, bytes: &[u8]) -> Result<(), N
 {
     put(out, b"noise olt")?;
     put_bytes(alloc, out, bytes)?;
+    put(out, b"\n")?;
+    Ok(())
+}
+
+/// Appends the line of a measured value.
+#[tactic(auto, unfolding(script_spec::specs::Canonical::line_text))]
+fn put_sense(
+    alloc: Global,
+    out: &mut Vec<u8>,
+    entity: EntityId,
+    number: u8,
+    value: &[u8],
+) -> Result<(), NoMemory>
+    ensures appended { OnOk result
+        (out.new.items ≡ out.old.items ++ action_text (spec.Sense entity number value.now)) }
+{
+    put(out, b"sense")?;
+    put_number(out, u64::from(entity.class))?;
+    put_number(out, u64::from(entity.instance))?;
+    put_number(out, u64::from(number))?;
+    put_bytes(alloc, out, value)?;
+    put(out, b"\n")?;
+    Ok(())
+}
+
+/// Appends the line of an entity's alarms.
+#[tactic(auto, unfolding(script_spec::specs::Canonical::line_text))]
+fn put_alarm(
+    alloc: Global,
+    out: &mut Vec<u8>,
+    entity: EntityId,
+    bitmap: &[u8],
+) -> Result<(), NoMemory>
+    ensures appended { OnOk result
+        (out.new.items ≡ out.old.items ++ action_text (spec.Alarm entity bitmap.now)) }
+{
+    put(out, b"alarm")?;
+    put_number(out, u64::from(entity.class))?;
+    put_number(out, u64::from(entity.instance))?;
+    put_bytes(alloc, out, bitmap)?;
     put(out, b"\n")?;
     Ok(())
 }

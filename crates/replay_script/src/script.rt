@@ -59,6 +59,8 @@ pub enum Event {
     },
     /// The manager takes the unit's database over by an upload.
     Resync,
+    /// The manager audits its table of alarms: it is read anew from the unit.
+    Audit,
     /// The manager asks for the unit's MIB data sync, to compare it with its copy's.
     Check,
     /// The link delivers the packet of this number, counted from 0.
@@ -79,6 +81,17 @@ pub enum Event {
     },
     /// A second passes.
     Tick,
+    /// The unit measures a value of 1 to 25 bytes of the attribute of this number, 1 to 16.
+    Sense {
+        entity: EntityId,
+        number: u8,
+        value: Bytes,
+    },
+    /// The unit notices an entity's alarms: at most 28 bytes of a bitmap.
+    Alarm {
+        entity: EntityId,
+        bitmap: Bytes,
+    },
     /// The unit loses its power.
     CutUnit,
     /// The manager loses its power.

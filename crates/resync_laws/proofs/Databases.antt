@@ -1,5 +1,5 @@
 -- The unit's database stays whole.
-use Rattle.std.proofs.Common.{◌≡◌, ℕ, zero, suc, ◌+◌, ◌-◌, ◌<◌, ◌≤◌, ◌^◌, Bool, true, false, cond, not, ◌&&◌, eqb, List, [], ◌∷◌, length, take, drop, replicate, map, Option, Some, None, option_map, is_some, Ordering, Less, Equal, Greater, is_lt, refl, sym, ap, subst, ◌∙◌, arith, nat_le, nat_lt, ◌==◌, length-take, length-drop}
+use Rattle.std.proofs.Common.{◌≡◌, ℕ, ◌+◌, ◌<◌, ◌≤◌, ◌^◌, Bool, true, false, cond, not, ◌&&◌, List, [], ◌∷◌, length, take, drop, replicate, map, Option, Some, None, option_map, is_some, Ordering, Less, Equal, Greater, is_lt, refl, sym, ap, subst, ◌∙◌, arith, nat_le, nat_lt, ◌==◌, length-drop}
 use Rattle.std.proofs.lemmas.Option.{same_Some}
 use Rattle.std.proofs.lemmas.Bool.{eqb-true, and_parts, false≢true}
 use Rattle.std.proofs.lemmas.Bool.Decides.{nat_tests}
@@ -8,20 +8,21 @@ use Rattle.std.specs.Option.{option_map_or}
 use Rattle.std.specs.Map.{lookup, set_value, remove_entry}
 use Rattle.std.specs.BTreeMap.{insert_entry, is_at}
 use Rattle.omci_types.specs.declared.EntityId.{EntityId}
-use Rattle.omci_types.specs.declared.Frame.{Frame}
 use Rattle.omci_types.specs.declared.SlotView.{SlotView}
 use Rattle.omci_types.specs.declared.Software.{Software}
 use Rattle.class_spec.specs.declared.Maker.TheVariants.{Unit as by_unit, Manager as by_manager}
 use Rattle.class_spec.specs.declared.TheConstants.{ONU_DATA}
-use Rattle.class_spec.specs.Classes.{Attribute, Row, class_row, class_table}
-use Rattle.class_spec.specs.Masks.{has, width_where, width_of, unknown_mask, fixed_mask}
+use Rattle.class_spec.specs.Classes.{Attribute, Row, class_row, class_table, attribute_in}
+use Rattle.class_spec.specs.Masks.{has, width_where, width_of}
 use Rattle.mib_spec.specs.declared.TheConstants.{MOST_ENTITIES}
 use Rattle.mib_spec.specs.Database.{Database, Managed, Values, entity_cmp, entity, managed_of, is_held, with_entity, without_entity, zeros, zeros_of, values_of, with_values, with_value, counter, with_counter, bump, with_counter_grown, image_entity, image_values, first_with, first, ethernet, onu_g, onu2_g, t_cont, slot}
-use Rattle.mib_spec.specs.Requests.{first_code, unless_refused, is_class, is_unit_made, create_values, new_entity, create_code, create_outcome, delete_code, delete_outcome, of_class, set_values, set_code, is_counter_set, set_effect, set_outcome, reset_code, reset}
+use Rattle.mib_spec.specs.declared.Sensed.{Sensed}
+use Rattle.mib_spec.specs.declared.Sensed.TheVariants.{NotAllowed, Same, Changed}
+use Rattle.mib_spec.specs.Requests.{may_sense, is_sensed, sense_outcome, first_code, unless_refused, is_class, is_unit_made, create_values, new_entity, create_code, create_outcome, delete_code, delete_outcome, of_class, set_values, set_code, is_counter_set, set_effect, set_outcome, reset}
 use Rattle.upload_spec.specs.Pieces.{Copy, without_makers}
 use Rattle.upload_laws.specs.Shaped.{IsShaped, IsWholeEntry, ComesBefore, IsWhole}
 use Rattle.resync_laws.specs.Databases.{IsWholeDatabase, HasVersions}
-use Rattle.resync_laws.proofs.Tables.{IsClassRow, class_is}
+use Rattle.resync_laws.proofs.Tables.{class_is}
 use Rattle.resync_laws.proofs.Whole.{entry_is, whole_insert, insert_length, whole_remove, remove_length, whole_set, set_length, whole_found, makers_length, makers_insert, makers_remove, makers_set, makers_lookup}
 
 -- ---- shapes
@@ -310,6 +311,53 @@ set_whole one mask given database h =
           | true ↦ after
           | false ↦ grown_whole _ after
         ]
+
+-- ---- a value that the unit measured
+
+-- the attribute is there, may not be written, and has this width
+abbrev pub may_be_sensed : List ℕ → Option Attribute → Bool
+may_be_sensed value o =
+    option_map_or (λ (one : Attribute). not one.written && one.width == length value) o false
+
+pub value_shaped : (number : ℕ) (value : List ℕ) (attributes : List Attribute) (values : Values)
+    → IsShaped attributes values → may_be_sensed value (attribute_in attributes number) ≡ true
+    → IsShaped attributes (with_value number value values)
+value_shaped number value [] [] s h = absurd (false≢true h)
+value_shaped number value [] (v ∷ vs) s h = absurd s
+value_shaped number value (one ∷ rest) [] s h = absurd s
+value_shaped number value (one ∷ rest) (v ∷ vs) s h =
+    go (one.number == number) (v.0 == number) (ap (λ n. n == number) s.0) h
+    (λ k. value_shaped number value rest vs s.2 k)
+  where
+    go : (a b : Bool) → b ≡ a → may_be_sensed value (cond a (Some one) (attribute_in rest number)) ≡ true
+        → (may_be_sensed value (attribute_in rest number) ≡ true → IsShaped rest (with_value number value vs))
+        → IsShaped (one ∷ rest) (cond b ((v.0, value) ∷ vs) (v ∷ with_value number value vs))
+    go true true e k later = (s.0, sym (eqb-true one.width (length value) (and_parts (not one.written) (one.width == length value) k).1), s.2)
+    go false false e k later = (s.0, s.1, later k)
+    go true false e k later = absurd (cc)
+    go false true e k later = absurd (cc)
+
+-- of a class that is there
+pub sensed_row : (value : List ℕ) (number class : ℕ) (o : Option Row) → class_row class ≡ o
+    → option_map_or (λ (row : Row). may_be_sensed value (attribute_in row.attributes number)) o false ≡ true
+    → (row : Row) × (class_row class ≡ Some row) × (may_be_sensed value (attribute_in row.attributes number) ≡ true)
+sensed_row value number class None e h = absurd (false≢true h)
+sensed_row value number class (Some row) e h = (row, e, h)
+
+pub sense_whole : (one : EntityId) (number : ℕ) (value : List ℕ) (database : Database)
+    → IsWholeDatabase database → IsWholeDatabase (sense_outcome one number value database).1
+unfolding sense_outcome may_sense
+sense_whole one number value database h =
+    go (may_sense one number value database) (is_sensed one number value database) refl
+  where
+    go : (may same : Bool) → may_sense one number value database ≡ may
+        → IsWholeDatabase (cond {A = Sensed × Database} (not may) (NotAllowed, database) (cond same (Same, database) (Changed, with_values one (with_value number value (values_of one database)) database))).1
+    go false same e = h
+    go true true e = h
+    go true false e =
+        let r = sensed_row value number one.class (class_row one.class) refl (and_parts _ _ e).1 in
+        with_values_whole one r.0 (with_value number value (values_of one database)) database h r.1
+        (value_shaped number value r.0.attributes (values_of one database) (values_shaped one r.0 database h r.1) r.2)
 
 -- ---- the first database
 

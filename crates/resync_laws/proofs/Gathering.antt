@@ -1,7 +1,6 @@
 -- Pieces that come one after the other give the copy that they were cut from.
-use Rattle.std.proofs.Common.{◌≡◌, ℕ, zero, suc, ◌+◌, ◌<◌, ◌≤◌, Bool, true, false, cond, not, ◌&&◌, List, [], ◌∷◌, ◌++◌, length, take, drop, replicate, slice_get, Option, Some, None, refl, sym, ap, subst, ◌∙◌, arith, nat_le, nat_lt, bytes_eq, is_some, take_all}
+use Rattle.std.proofs.Common.{◌≡◌, ℕ, zero, suc, ◌+◌, ◌<◌, ◌≤◌, Bool, true, false, cond, not, List, [], ◌∷◌, ◌++◌, length, take, replicate, slice_get, Option, Some, None, refl, sym, ap, ◌∙◌, arith, nat_lt, bytes_eq, take_all}
 use Rattle.std.proofs.lemmas.Option.{same_Some}
-use Rattle.std.proofs.lemmas.Bool.Decides.{nat_tests}
 use Rattle.omci_types.specs.declared.EntityId.{EntityId}
 use Rattle.class_spec.specs.Masks.{width_of}
 use Rattle.mib_spec.specs.Requests.{is_class, of_class}

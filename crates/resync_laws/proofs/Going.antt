@@ -1,25 +1,22 @@
 -- A resynchronisation goes on: the low lane, where it is free, sends what the job wants next.
-use Rattle.std.proofs.Common.{◌≡◌, ℕ, ◌+◌, ◌<◌, ◌≤◌, Bool, true, false, cond, ◌&&◌, List, [], ◌∷◌, ◌++◌, length, map, Option, Some, None, ◌⊎◌, inl, inr, is_none, refl, sym, ap, subst, ◌∙◌, arith, append-nil, nat_le}
+use Rattle.std.proofs.Common.{◌≡◌, ℕ, ◌<◌, Bool, true, false, ◌&&◌, List, [], ◌++◌, map, Option, Some, None, ◌⊎◌, inl, inr, is_none, refl, sym, ap, subst, ◌∙◌, arith, append-nil}
 use Rattle.std.proofs.lemmas.Option.{same_Some}
 use Rattle.std.proofs.lemmas.Bool.{and_parts, false≢true}
-use Rattle.std.proofs.lemmas.Bool.Decides.{nat_tests}
 use Rattle.std.specs.List.{flat_map}
-use Rattle.omci_types.specs.declared.Priority.{Priority}
-use Rattle.omci_types.specs.declared.Priority.TheVariants.{Low, High}
 use Rattle.message_spec.specs.declared.Request.TheVariants as request
 use Rattle.link_spec.specs.Link.{Link}
-use Rattle.lane_spec.specs.Command.{Command, sync_entity, job_command}
+use Rattle.lane_spec.specs.Command.{sync_entity, job_command}
 use Rattle.lane_spec.specs.Lane.{Lane, Waiting, with_command}
-use Rattle.manager_spec.specs.declared.Report.{Report}
-use Rattle.manager_spec.specs.Manager.{Stage, Probing, Asking, Gathering, Manager, Outcome, Sending, sends_nothing, and_then, command_sent}
-use Rattle.manager_spec.specs.Resync.{with_job, is_free, wish_in, wish_of, send_wish, job_goes_on, Wish}
+use Rattle.manager_spec.specs.Manager.{Stage, Probing, Asking, Gathering, AskingAlarms, GatheringRows, Manager, Outcome, Sending, and_then}
+use Rattle.manager_spec.specs.Resync.{with_job}
+use Rattle.manager_spec.specs.Jobs.{is_free, wish_in, wish_of, send_wish, job_goes_on, Wish}
 use Rattle.upload_spec.specs.Pieces.{Copy}
 use Rattle.unit_spec.specs.Onu.{Onu}
 use Rattle.history_spec.specs.History.{Entry, WasCarried, LastReply}
-use Rattle.world_spec.specs.Happenings.{ReplyTaken, link_read}
+use Rattle.world_spec.specs.Happenings.{ReplyTaken, NoticeTaken, link_read}
 use Rattle.world_spec.specs.Ends.{sends}
 use Rattle.world_spec.specs.History.{Told, tell_all}
-use Rattle.resync_laws.proofs.Invariants.{reply_carried, Asks, Gathers, AsksNext, AtStage, JobOk, Held}
+use Rattle.resync_laws.proofs.Invariants.{reply_carried, Asks, Gathers, AtStage, JobOk, Held}
 use Rattle.resync_laws.proofs.Telling.{NoneSynced, Did, Goes, did_quiet, goes_nothing, goes_low}
 
 -- where the low lane may send the next request for a piece
@@ -33,6 +30,8 @@ Ready lives unit low tlow asking history Asking = Asks lives unit low tlow askin
 Ready lives unit low tlow asking history (Gathering expected next copy) =
     AtStage lives unit low tlow asking history (Gathering expected next copy)
     ⊎ (IsFree low × Gathers unit asking history expected next copy)
+Ready lives unit low tlow asking history AskingAlarms = Unit {0}
+Ready lives unit low tlow asking history (GatheringRows expected next) = Unit {0}
 
 abbrev pub JobReady : ℕ → Option Onu → Lane → Option Stage → (tlow asking : ℕ) → List Entry → Type 0
 JobReady lives unit low job tlow asking history =
@@ -44,6 +43,8 @@ pub ready_of : (lives : ℕ) (unit : Option Onu) (low : Lane) (tlow asking : ℕ
 ready_of lives unit low tlow asking history (Probing high' low') h = tt
 ready_of lives unit low tlow asking history Asking h = h
 ready_of lives unit low tlow asking history (Gathering expected next copy) h = inl h
+ready_of lives unit low tlow asking history AskingAlarms h = tt
+ready_of lives unit low tlow asking history (GatheringRows expected next) h = tt
 
 pub job_at : (lives : ℕ) (unit : Option Onu) (low : Lane) (job : Option Stage) (tlow asking : ℕ)
     (history : List Entry) (s : Stage) → job ≡ Some s
@@ -58,31 +59,31 @@ job_none lives unit low job tlow asking history e x f = absurd (cc)
 
 -- ---- the step
 
-busy_lane : (low : Lane) (w : Waiting) → low.outstanding ≡ Some w → is_free low ≡ false
+pub busy_lane : (low : Lane) (w : Waiting) → low.outstanding ≡ Some w → is_free low ≡ false
 busy_lane low w e = ap (λ o. low.proved && is_none o) e ∙ and_false low.proved
   where
     and_false : (b : Bool) → (b && false) ≡ false
     and_false true = refl
     and_false false = refl
 
-free_lane : (low : Lane) → IsFree low → is_free low ≡ true
+pub free_lane : (low : Lane) → IsFree low → is_free low ≡ true
 free_lane low h = ap (λ b. b && is_none low.outstanding) h.proved ∙ ap is_none h.none
 
 none_if : (o : Option Waiting) → is_none o ≡ true → o ≡ None
 none_if None e = refl
 none_if (Some w) e = absurd (false≢true e)
 
-is_free_lane : (low : Lane) → is_free low ≡ true → IsFree low
+pub is_free_lane : (low : Lane) → is_free low ≡ true → IsFree low
 is_free_lane low e =
     let p = and_parts low.proved (is_none low.outstanding) e in
     record { proved = p.0; none = none_if low.outstanding p.1 }
 
 -- what has never been drawn was never carried out
-never : {A : Type 0} (t : Told) → ((life command : ℕ) → WasCarried life command t.history → command < t.drawn)
+pub never : {A : Type 0} (t : Told) → ((life command : ℕ) → WasCarried life command t.history → command < t.drawn)
     → (life : ℕ) → WasCarried life t.drawn t.history → A
 never t known life was = let lt = known life t.drawn was in absurd (omega (arith, lt))
 
-never_replied : {A : Type 0} (t : Told) → ((life command : ℕ) → WasCarried life command t.history → command < t.drawn)
+pub never_replied : {A : Type 0} (t : Told) → ((life command : ℕ) → WasCarried life command t.history → command < t.drawn)
     → (r : List ℕ) → LastReply t.drawn r t.history → A
 never_replied t known r last =
     let was = reply_carried t.drawn r t.history last in never t known was.0 was.1
@@ -127,6 +128,20 @@ module _ (m : Manager) (link : Link) (lives : ℕ) (unit : Option Onu) (t : Told
         },
       )))
 
+  -- an audit asks for its next row
+  rows_next : (expected next : ℕ) (b : Bool) → is_free m.low ≡ b
+      → m.job ≡ Some (GatheringRows expected next)
+      → Goes (send_wish b (wish_of (GatheringRows expected next)) m) link lives unit t
+  rows_next expected next false e j =
+      goes_nothing m link lives unit t h
+      (job_at lives unit m.low m.job t.low t.asking t.history (GatheringRows expected next) j tt)
+  rows_next expected next true e j =
+      let free = is_free_lane m.low e in
+      let c = job_command sync_entity (request.AlarmsNext next) in
+      goes_low false c (with_job (Some (GatheringRows expected next)) m) link lives unit t h free.none
+      (job_at lives unit (with_command c m.low) (Some (GatheringRows expected next)) t.drawn t.asking
+      t.history (GatheringRows expected next) refl tt)
+
   goes_by : (job : Option Stage) → m.job ≡ job
       → JobReady lives unit m.low job t.low t.asking t.history
       → Goes (send_wish (is_free m.low) (wish_in job) m) link lives unit t
@@ -136,6 +151,8 @@ module _ (m : Manager) (link : Link) (lives : ℕ) (unit : Option Onu) (t : Told
   goes_by (Some (Probing false false)) e r = asks_now (is_free m.low) refl e
   goes_by (Some Asking) e r = goes_nothing m link lives unit t h (job_at lives unit m.low m.job t.low t.asking t.history Asking e (r Asking refl))
   goes_by (Some (Gathering expected next copy)) e r = asks_next expected next copy e (r (Gathering expected next copy) refl)
+  goes_by (Some AskingAlarms) e r = goes_nothing m link lives unit t h (job_at lives unit m.low m.job t.low t.asking t.history AskingAlarms e tt)
+  goes_by (Some (GatheringRows expected next)) e r = rows_next expected next (is_free m.low) refl e
 
   pub goes_on : JobReady lives unit m.low m.job t.low t.asking t.history → Goes (job_goes_on m) link lives unit t
   unfolding job_goes_on
@@ -145,14 +162,15 @@ module _ (m : Manager) (link : Link) (lives : ℕ) (unit : Option Onu) (t : Told
 
 pub record IsSilent (m : Manager) (o : Outcome) : Type 0 where
   pub taken : o.taken ≡ []
+  pub noticed : o.noticed ≡ []
   pub reports : o.manager.reports ≡ m.reports
   pub copy : o.manager.copy ≡ m.copy
 
 silent_wish : (b : Bool) (w : Option Wish) (m : Manager) → IsSilent m (send_wish b w m)
-silent_wish true None m = record { taken = refl; reports = refl; copy = refl }
-silent_wish false None m = record { taken = refl; reports = refl; copy = refl }
-silent_wish false (Some w) m = record { taken = refl; reports = refl; copy = refl }
-silent_wish true (Some w) m = record { taken = refl; reports = refl; copy = refl }
+silent_wish true None m = record { taken = refl; noticed = refl; reports = refl; copy = refl }
+silent_wish false None m = record { taken = refl; noticed = refl; reports = refl; copy = refl }
+silent_wish false (Some w) m = record { taken = refl; noticed = refl; reports = refl; copy = refl }
+silent_wish true (Some w) m = record { taken = refl; noticed = refl; reports = refl; copy = refl }
 
 pub silent : (m : Manager) → IsSilent m (job_goes_on m)
 unfolding job_goes_on
@@ -162,16 +180,20 @@ silent m = silent_wish (is_free m.low) (wish_in m.job) m
 
 -- a step that sends nothing, and then the job
 pub did_then : (a : Outcome) (link : Link) (lives : ℕ) (unit : Option Onu) (t u : Told)
-    → tell_all (map ReplyTaken a.taken) t ≡ u → NoneSynced a.manager.reports → a.sendings ≡ []
+    → tell_all (map ReplyTaken a.taken) t ≡ u → a.noticed ≡ [] → NoneSynced a.manager.reports
+    → a.sendings ≡ []
     → Held link.packets unit a.manager.low a.manager.high u
     → JobReady lives unit a.manager.low a.manager.job u.low u.asking u.history
     → Did (and_then a job_goes_on) link lives unit t
-did_then a link lives unit t u e none nothing h r =
+did_then a link lives unit t u e unnoticed none nothing h r =
     let q = silent a.manager in
     let on = goes_on a.manager link lives unit u h r in
     did_quiet (and_then a job_goes_on) link lives unit t u
-    (ap (λ l. tell_all (map ReplyTaken (a.taken ++ l)) t) q.taken
-    ∙ ap (λ l. tell_all (map ReplyTaken l) t) (append-nil a.taken) ∙ e)
+    (ap (λ l. tell_all (map ReplyTaken (a.taken ++ l) ++ map NoticeTaken (a.noticed ++ (job_goes_on a.manager).noticed)) t) q.taken
+    ∙ ap (λ l. tell_all (map ReplyTaken l ++ map NoticeTaken (a.noticed ++ (job_goes_on a.manager).noticed)) t) (append-nil a.taken)
+    ∙ ap (λ l. tell_all (map ReplyTaken a.taken ++ map NoticeTaken (l ++ (job_goes_on a.manager).noticed)) t) unnoticed
+    ∙ ap (λ l. tell_all (map ReplyTaken a.taken ++ map NoticeTaken l) t) q.noticed
+    ∙ ap (λ l. tell_all l t) (append-nil (map ReplyTaken a.taken)) ∙ e)
     (subst NoneSynced (sym q.reports) none)
     (record {
       held = subst (λ (l : List Sending). Held (link_read (flat_map sends (l ++ (job_goes_on a.manager).sendings)) link).packets unit (job_goes_on a.manager).manager.low (job_goes_on a.manager).manager.high (tell_all (flat_map sends (l ++ (job_goes_on a.manager).sendings)) u)) (sym nothing) on.held;

@@ -1,28 +1,27 @@
 -- What holds of both ends, the link and what is told of them, whatever happens: of each packet, of
 -- the manager's lanes, and of a resynchronisation that runs.
-use Rattle.std.proofs.Common.{◌≡◌, ◌≢◌, ℕ, zero, suc, ◌+◌, ◌<◌, ◌≤◌, ◌^◌, Bool, true, false, cond, List, [], ◌∷◌, ◌++◌, length, replicate, slice_get, Option, Some, None, ◌⊎◌, inl, inr, refl, sym, ap, subst, ◌∙◌, arith, nat_lt, ◌==◌}
+use Rattle.std.proofs.Common.{◌≡◌, ◌≢◌, ℕ, zero, suc, ◌<◌, ◌≤◌, ◌^◌, Bool, true, false, cond, List, [], ◌∷◌, ◌++◌, length, replicate, slice_get, Option, Some, ◌⊎◌, inl, inr, refl, sym, ap, subst, ◌∙◌, arith, nat_lt}
 use Rattle.std.proofs.lemmas.Option.{same_Some}
 use Rattle.std.proofs.lemmas.Bool.Decides.{nat_tests}
 use Rattle.std.proofs.lemmas.Nat.{from_be_bytes-to_be_bytes_2}
 use Rattle.omci_types.specs.declared.Frame.{Frame}
-use Rattle.omci_types.specs.declared.Priority.{Priority}
 use Rattle.omci_types.specs.declared.Priority.TheVariants.{Low, High}
-use Rattle.tci_spec.specs.Tci.{number_after, priority_of, tci_of, packet_tci}
+use Rattle.tci_spec.specs.Tci.{priority_of, packet_tci}
 use Rattle.frame_spec.specs.Baseline.{checked_bytes, spelling}
 use Rattle.message_spec.specs.declared.Request.TheVariants as request
 use Rattle.message_spec.specs.declared.Response.TheVariants as response
 use Rattle.message_spec.specs.Reading.{plain}
 use Rattle.upload_spec.specs.Pieces.{Copy, pieces, piece_at, without_makers}
 use Rattle.upload_laws.specs.Shaped.{IsWhole}
-use Rattle.link_spec.specs.declared.Direction.TheVariants.{Down, Up}
+use Rattle.link_spec.specs.declared.Direction.TheVariants.{Down}
 use Rattle.link_spec.specs.Link.{Sent, lane_of}
 use Rattle.lane_spec.specs.declared.Purpose.{Purpose}
 use Rattle.lane_spec.specs.declared.Purpose.TheVariants as purpose
-use Rattle.lane_spec.specs.Command.{Command, sync_entity, job_command, command_frame, command_packets}
-use Rattle.lane_spec.specs.Lane.{Lane, Waiting, next_tci, with_command}
-use Rattle.manager_spec.specs.Manager.{Stage, Probing, Asking, Gathering, Manager}
+use Rattle.lane_spec.specs.Command.{Command, sync_entity, job_command, command_frame}
+use Rattle.lane_spec.specs.Lane.{Lane, Waiting}
+use Rattle.manager_spec.specs.Manager.{Stage, Probing, Asking, Gathering, AskingAlarms, GatheringRows, Manager}
 use Rattle.unit_spec.specs.Onu.{Onu, Snapshot, response_frame}
-use Rattle.history_spec.specs.History.{Entry, CarriedOut, TookReply, Remarked, TookSnapshot, Synced, WasCarried, LastReply, LastSnapshot, SyncedRight}
+use Rattle.history_spec.specs.History.{Entry, CarriedOut, TookReply, Remarked, TookSnapshot, Synced, TookAlarms, Audited, WasCarried, LastReply, LastSnapshot, SyncedRight}
 use Rattle.world_spec.specs.History.{Told, name_at}
 use Rattle.resync_laws.specs.Databases.{IsWholeDatabase}
 use Rattle.resync_laws.proofs.Reading.{is_plain}
@@ -51,6 +50,8 @@ one_snapshot command a b (Remarked (TookSnapshot life c database) ∷ older) (in
 one_snapshot command a b (Remarked (TookSnapshot life c database) ∷ older) (inr h) (inl k) = absurd (h.0 k.0)
 one_snapshot command a b (Remarked (TookSnapshot life c database) ∷ older) (inr h) (inr k) = one_snapshot command a b older h.1 k.1
 one_snapshot command a b (Remarked (Synced c other) ∷ older) h k = one_snapshot command a b older h k
+one_snapshot command a b (Remarked (TookAlarms life c alarms) ∷ older) h k = one_snapshot command a b older h k
+one_snapshot command a b (Remarked (Audited c table notices) ∷ older) h k = one_snapshot command a b older h k
 
 -- ---- packets, each with its command's name
 
@@ -83,7 +84,7 @@ sent_at P (x ∷ packets) [] i s h e = absurd h
 sent_at P (x ∷ packets) (n ∷ names) zero s h e = subst (λ y. P y n) (same_Some x s e) h.0
 sent_at P (x ∷ packets) (n ∷ names) (suc i) s h e = sent_at P packets names i s h.1 e
 
--- a command's packet, which asks for no snapshot or goes in the low lane
+-- a command's packet, which asks for nothing to be put by or goes in the low lane
 pub record IsMade (s : Sent) : Type 0 where
   pub tci : ℕ
   pub command : Command
@@ -91,7 +92,7 @@ pub record IsMade (s : Sent) : Type 0 where
   pub lane : (lane_of s.bytes ≡ Low) ⊎ (is_plain command.request ≡ true)
 
 abbrev pub IsSent : ℕ → Sent → ℕ → Type 0
-IsSent drawn s name = (name < drawn) × (s.direction ≡ Down → IsMade s)
+IsSent drawn s name = s.direction ≡ Down → (name < drawn) × IsMade s
 
 -- no packet of the high lane is of that command
 abbrev pub IsApart : ℕ → Sent → ℕ → Type 0
@@ -175,6 +176,8 @@ AtStage lives unit low tlow asking history Asking = Asks lives unit low tlow ask
 AtStage lives unit low tlow asking history (Gathering expected next copy) =
     (g : Gathers unit asking history expected next copy)
     × AsksNext low tlow history g.database next
+AtStage lives unit low tlow asking history AskingAlarms = Unit {0}
+AtStage lives unit low tlow asking history (GatheringRows expected next) = Unit {0}
 
 abbrev pub JobOk : ℕ → Option Onu → Lane → Option Stage → (tlow asking : ℕ) → List Entry → Type 0
 JobOk lives unit low job tlow asking history =

@@ -14,3 +14,5 @@ pub mod Serving
 pub mod Turns
 pub mod Lines
 pub mod Runs
+pub mod Agreeing
+pub mod Following

@@ -1,48 +1,48 @@
 -- Each line of a script keeps all well.
-use Rattle.std.proofs.Common.{◌≡◌, ◌≢◌, ℕ, zero, suc, ◌+◌, ◌-◌, ◌<◌, ◌≤◌, ◌^◌, Bool, true, false, cond, List, [], ◌∷◌, ◌++◌, length, map, replicate, slice_get, Option, Some, None, ◌⊎◌, inl, inr, is_some, refl, sym, ap, subst, ◌∙◌, arith, append-nil, length-append}
+use Rattle.std.proofs.Common.{◌≡◌, ◌≢◌, ℕ, ◌+◌, ◌-◌, Bool, true, false, List, [], ◌∷◌, ◌++◌, length, replicate, slice_get, Option, Some, None, refl, sym, ap, subst, ◌∙◌, arith, length-append}
 use Rattle.std.proofs.lemmas.Option.{same_Some}
 use Rattle.std.proofs.lemmas.List.{length-replicate, length-take-le}
-use Rattle.std.proofs.lemmas.List.Elements.{All-head, All-tail}
-use Rattle.std.specs.List.{All, Contains}
 use Rattle.omci_types.specs.declared.EntityId.{EntityId}
 use Rattle.omci_types.specs.declared.Priority.{Priority}
-use Rattle.omci_types.specs.declared.Priority.TheVariants.{Low, High}
 use Rattle.omci_types.specs.declared.SlotView.{SlotView}
-use Rattle.tci_spec.specs.Tci.{IsNumber, priority_of, packet_tci}
+use Rattle.tci_spec.specs.Tci.{IsNumber}
 use Rattle.message_spec.specs.declared.Request.{Request}
-use Rattle.message_spec.specs.declared.Request.TheVariants as request
-use Rattle.frame_spec.specs.Baseline.{fault_of, spelling, packet_frame}
+use Rattle.frame_spec.specs.Baseline.{fault_of, packet_frame}
 use Rattle.frame_spec.specs.Widths.{filled, front_filled}
-use Rattle.script_spec.specs.Script.{Header, Action, Probe, Reset, Get, Create, Set, Delete, Resync, Check, Deliver, Flow, NoiseUnit, NoiseOlt, Tick, CutUnit, CutOlt, StartUnit, StartOlt, IsAction}
+use Rattle.script_spec.specs.Script.{Header}
 use Rattle.link_spec.specs.declared.Direction.{Direction}
 use Rattle.link_spec.specs.declared.Direction.TheVariants.{Down, Up}
-use Rattle.link_spec.specs.Link.{Sent, Link, Ways, way_of, lane_of, may_come, if_may_come, allowed_one, allowed, count, delivered_on}
-use Rattle.lane_spec.specs.Command.{sync_entity, is_probe, command_frame, command_packets}
-use Rattle.lane_spec.specs.Lane.{Lane, Waiting, waiting_packets}
+use Rattle.link_spec.specs.Link.{Sent, Link, Ways, way_of, may_come, if_may_come, allowed_one, allowed, count, delivered_on}
+use Rattle.lane_spec.specs.Lane.{Lane}
+use Rattle.message_spec.specs.declared.Notice.{Notice}
+use Rattle.mib_spec.specs.Database.{Database}
+use Rattle.mib_spec.specs.declared.Sensed.{Sensed}
+use Rattle.mib_spec.specs.declared.Sensed.TheVariants as sensed
+use Rattle.mib_spec.specs.Requests.{sense_outcome}
+use Rattle.alarm_spec.specs.Log.{change}
+use Rattle.unit_spec.specs.declared.Noticed.{Noticed}
+use Rattle.unit_spec.specs.declared.Noticed.TheVariants as noticed
+use Rattle.unit_spec.specs.Noticing.{Noticing, sensed_as, onu_sensed, told_by, may_alarm, alarm_if, onu_alarmed}
 use Rattle.manager_spec.specs.declared.Refusal.{Refusal}
 use Rattle.manager_spec.specs.declared.Report.TheVariants as report
-use Rattle.manager_spec.specs.Manager.{Manager, Outcome, lane_in, with_report, manager_started}
-use Rattle.manager_spec.specs.Submitting.{Submission, unless_refused, probe_refusal, after_probe, submit_refusal, after_submit, check_refusal, after_check, resync_refusal, after_resync}
+use Rattle.manager_spec.specs.Manager.{Manager, Outcome, with_report, manager_started}
+use Rattle.manager_spec.specs.Submitting.{Submission, unless_refused, probe_refusal, after_probe, submit_refusal, after_submit, check_refusal, after_check, resync_refusal, after_resync, audit_refusal, after_audit}
 use Rattle.manager_spec.specs.Steps.{packet_dropped, for_frame, after_packet, after_tick}
-use Rattle.unit_spec.specs.declared.Did.TheVariants as did
-use Rattle.unit_spec.specs.declared.Note.{Note}
-use Rattle.unit_spec.specs.Onu.{Onu, Snapshot, Reception, onu_started, onu_received, onu_ticked}
-use Rattle.history_spec.specs.History.{WasCarried, LastReply, SyncedRight}
-use Rattle.world_spec.specs.Happenings.{Happening, PacketCame, link_read}
-use Rattle.world_spec.specs.Ends.{Ends, Step, view_of, factory_software, first_ends, still, not_enabled, preceded, then_step, manager_did, submission_by, submission_step, submission, manager_got, manager_ticks, unit_did, unit_got, arrives_at, arrives, noise, unit_ticks, second, cut_unit, cut_manager, start_unit, start_manager}
-use Rattle.world_spec.specs.Nodes.{Nodes, Turn, first_nodes, delivery_of, delivery, nodes_after_step, goes_on, flow_from, oldest_fresh, flow, acted, next_event, turn_of, step, nodes_after}
-use Rattle.world_spec.specs.History.{Told, first_told, drawn_in, name_at, tell, tell_all, told_after, history_of}
-use Rattle.world_laws.specs.Facts.{AreReached, MayCome, MayBeCarriedOut, MayBeTaken, IsAwaited}
+use Rattle.unit_spec.specs.Onu.{Onu, Reception, onu_started, onu_ticked}
+use Rattle.world_spec.specs.Happenings.{PacketCame, link_read}
+use Rattle.world_spec.specs.Ends.{Step, view_of, factory_software, not_enabled, preceded, manager_did, submission_step, submission, manager_got, manager_ticks, unit_did, unit_got, arrives_at, arrives, noise, unit_ticks, second, cut_unit, cut_manager, start_unit, start_manager, notice_sent, unit_notices}
+use Rattle.world_spec.specs.Nodes.{Nodes, first_nodes, delivery_of, delivery, nodes_after_step}
+use Rattle.world_spec.specs.History.{Told, first_told, name_at, tell_all}
 use Rattle.resync_laws.specs.Databases.{IsWholeDatabase, HasVersions}
 use Rattle.resync_laws.proofs.Reading.{noise_read, is_plain}
-use Rattle.resync_laws.proofs.Databases.{first_whole}
+use Rattle.resync_laws.proofs.Databases.{first_whole, sense_whole}
 use Rattle.resync_laws.proofs.Unit.{noise_drops}
-use Rattle.resync_laws.proofs.Invariants.{Held, Good, held_of, good_of, JobOk}
+use Rattle.resync_laws.proofs.Invariants.{Held, Good, held_of, good_of, sent_more, IsSent, IsApart}
 use Rattle.resync_laws.proofs.Telling.{tell_append, link_append, NoneSynced, none_more, Did, did_quiet, goes_nothing}
 use Rattle.resync_laws.proofs.Going.{job_none}
-use Rattle.resync_laws.proofs.Taking.{IsOwn, IsHeard, packet_good}
-use Rattle.resync_laws.proofs.Serving.{IsWaited, AreWaited, Served, unit_good}
-use Rattle.resync_laws.proofs.Turns.{probe_good, check_good, resync_good, submit_good, tick_good, IsOlder, ticked_older, nothing_older, stage_anew, good_older}
+use Rattle.resync_laws.proofs.Taking.{IsHeard, packet_good}
+use Rattle.resync_laws.proofs.Serving.{AreWaited, unit_good}
+use Rattle.resync_laws.proofs.Turns.{probe_good, check_good, resync_good, audit_good, submit_good, tick_good, IsOlder, ticked_older, nothing_older, stage_anew, good_older}
 
 -- all is well, and the images that the unit starts with have versions of their width
 pub record Fine (n : Nodes) (t : Told) : Type 0 where
@@ -118,6 +118,12 @@ module _ (n : Nodes) (t : Told) (f : Fine n t) where
       asked_fine after_resync n.ends.manager n t f refl
       (λ m g. submitted (resync_refusal m) _ m n t f (λ e. resync_good m n.link n.ends.lives n.ends.unit t (held m g) (g.job m refl) (g.reports m refl) e))
 
+  pub audit_fine : StepFine (submission after_audit n.ends.manager n.ends) n t
+  unfolding after_audit
+  audit_fine =
+      asked_fine after_audit n.ends.manager n t f refl
+      (λ m g. submitted (audit_refusal m) _ m n t f (λ e. audit_good m n.link n.ends.lives n.ends.unit t (held m g) (g.job m refl) (g.reports m refl) e))
+
   -- ---- a second
 
   manager_ticked : (o : Option Manager) → n.ends.manager ≡ o → StepFine (manager_ticks o n.ends) n t
@@ -135,6 +141,39 @@ module _ (n : Nodes) (t : Told) (f : Fine n t) where
         (λ v k. subst (λ (x : Onu). IsWholeDatabase x.database) (same_Some (onu_ticked u) v k) (f.good.whole u e)) f.good;
     versions = f.versions;
   }
+
+  -- ---- the unit notices something
+
+  noticed_by : (o : Noticed) (packet : List ℕ) (w : Onu) → Good n.link.packets n.ends.lives (Some w) n.ends.manager t
+      → StepFine (record { ends = record n.ends { unit = Some w }; happenings = notice_sent o packet }) n t
+  noticed_by noticed.NotAllowed packet w g = record { good = g; versions = f.versions }
+  noticed_by noticed.Same packet w g = record { good = g; versions = f.versions }
+  noticed_by noticed.Sent packet w g = record {
+    good = record {
+      sent = sent_more (IsSent t.drawn) n.link.packets t.names _ _ g.sent (λ d. absurd (cc));
+      apart = λ m v e out. sent_more (IsApart t.low) n.link.packets t.names _ _ (g.apart m v e out) (λ d. absurd (cc));
+      lanes = g.lanes;
+      job = g.job;
+      reports = g.reports;
+      carried = g.carried;
+      whole = g.whole;
+      right = g.right;
+    };
+    versions = f.versions;
+  }
+
+  pub noticing_fine : (call : Onu → Noticing) (o : Option Onu) → n.ends.unit ≡ o
+      → ((u : Onu) → (call u).unit.snapshot ≡ u.snapshot)
+      → ((u : Onu) → IsWholeDatabase u.database → IsWholeDatabase (call u).unit.database)
+      → StepFine (unit_notices call o n.ends) n t
+  noticing_fine call None e same whole = not_enabled_fine n t f
+  noticing_fine call (Some u) e same whole =
+      noticed_by (call u).noticed (call u).packet (call u).unit
+      (good_older n.link.packets n.ends.lives n.ends.unit (Some (call u).unit) n.ends.manager t
+      (record {
+        from = λ v s on has. (u, s, e, sym (same u) ∙ ap (λ (x : Onu). x.snapshot) (same_Some (call u).unit v on) ∙ has, refl);
+      })
+      (λ v k. subst (λ (x : Onu). IsWholeDatabase x.database) (same_Some (call u).unit v k) (whole u (f.good.whole u e))) f.good)
 
   -- ---- power
 
@@ -221,6 +260,52 @@ module _ (n : Nodes) (t : Told) (f : Fine n t) where
       (none_more m.reports report.Dropped (subst NoneSynced (sym (g.reports m refl)) tt) refl)
       (goes_nothing (with_report report.Dropped m) n.link n.ends.lives n.ends.unit t (held m g) (g.job m refl))))
 
+sensed_snapshot : (o : Sensed) (one : EntityId) (number : ℕ) (value : List ℕ) (db : Database) (u : Onu)
+    → (sensed_as o one number value db u).unit.snapshot ≡ u.snapshot
+sensed_snapshot sensed.NotAllowed one number value db u = refl
+sensed_snapshot sensed.Same one number value db u = refl
+sensed_snapshot sensed.Changed one number value db u = refl
+
+sensed_database : (o : Sensed) (one : EntityId) (number : ℕ) (value : List ℕ) (db : Database) (u : Onu)
+    → IsWholeDatabase db → IsWholeDatabase u.database → IsWholeDatabase (sensed_as o one number value db u).unit.database
+sensed_database sensed.NotAllowed one number value db u k h = h
+sensed_database sensed.Same one number value db u k h = h
+sensed_database sensed.Changed one number value db u k h = k
+
+-- the unit measures a value
+pub sense_fine : (one : EntityId) (number : ℕ) (value : List ℕ) (n : Nodes) (t : Told) → Fine n t
+    → StepFine (unit_notices (onu_sensed one number value) n.ends.unit n.ends) n t
+unfolding onu_sensed
+sense_fine one number value n t f =
+    noticing_fine n t f (onu_sensed one number value) n.ends.unit refl
+    (λ u. sensed_snapshot (sense_outcome one number value u.database).0 one number value (sense_outcome one number value u.database).1 u)
+    (λ u h. sensed_database (sense_outcome one number value u.database).0 one number value (sense_outcome one number value u.database).1 u (sense_whole one number value u.database h) h)
+
+told_snapshot : (o : Option Notice) (one : EntityId) (u : Onu) → (told_by o one u).unit.snapshot ≡ u.snapshot
+told_snapshot None one u = refl
+told_snapshot (Some notice) one u = refl
+
+told_database : (o : Option Notice) (one : EntityId) (u : Onu) → (told_by o one u).unit.database ≡ u.database
+told_database None one u = refl
+told_database (Some notice) one u = refl
+
+alarmed_snapshot : (b : Bool) (one : EntityId) (bitmap : List ℕ) (u : Onu) → (alarm_if b one bitmap u).unit.snapshot ≡ u.snapshot
+alarmed_snapshot false one bitmap u = refl
+alarmed_snapshot true one bitmap u = told_snapshot (change one bitmap u.log).notice one (record u { log = (change one bitmap u.log).log })
+
+pub alarmed_database : (b : Bool) (one : EntityId) (bitmap : List ℕ) (u : Onu) → (alarm_if b one bitmap u).unit.database ≡ u.database
+alarmed_database false one bitmap u = refl
+alarmed_database true one bitmap u = told_database (change one bitmap u.log).notice one (record u { log = (change one bitmap u.log).log })
+
+-- or notices alarms
+pub alarm_fine : (one : EntityId) (bitmap : List ℕ) (n : Nodes) (t : Told) → Fine n t
+    → StepFine (unit_notices (onu_alarmed one bitmap) n.ends.unit n.ends) n t
+unfolding onu_alarmed
+alarm_fine one bitmap n t f =
+    noticing_fine n t f (onu_alarmed one bitmap) n.ends.unit refl
+    (λ u. alarmed_snapshot (may_alarm one u.database) one bitmap u)
+    (λ u h. subst IsWholeDatabase (sym (alarmed_database (may_alarm one u.database) one bitmap u)) h)
+
 pub second_fine : (n : Nodes) (t : Told) → Fine n t → StepFine (second n.ends) n t
 unfolding second
 second_fine n t f =
@@ -252,7 +337,7 @@ allowed_at : (i : ℕ) (o : Option Sent) (ways : Ways) (total : ℕ) (s : Sent) 
 allowed_at i None ways total s e = absurd (cc)
 allowed_at i (Some x) ways total s e = ap (λ y. Some y) (allowed_by (may_come i (way_of x ways) total) x s e)
 
-allowed_is : (i : ℕ) (l : Link) (s : Sent) → allowed i l ≡ Some s → slice_get l.packets i ≡ Some s
+pub allowed_is : (i : ℕ) (l : Link) (s : Sent) → allowed i l ≡ Some s → slice_get l.packets i ≡ Some s
 unfolding allowed
 allowed_is i l s e = allowed_at i (slice_get l.packets i) l.ways (count l) s e
 

@@ -1,14 +1,12 @@
 -- The pieces of a whole copy: how many there are, and how long each is.
-use Rattle.std.proofs.Common.{◌≡◌, ℕ, zero, suc, ◌+◌, ◌-◌, ◌*◌, ◌<◌, ◌≤◌, ◌^◌, Bool, true, false, cond, List, [], ◌∷◌, ◌++◌, length, map, replicate, slice_get, Option, Some, None, refl, sym, ap, subst, ◌∙◌, arith, nat_le, length-append, append_assoc}
+use Rattle.std.proofs.Common.{◌≡◌, ℕ, zero, suc, ◌+◌, ◌-◌, ◌*◌, ◌<◌, ◌≤◌, ◌^◌, Bool, true, false, List, [], ◌∷◌, ◌++◌, length, map, replicate, slice_get, Some, refl, sym, ap, ◌∙◌, arith, nat_le, length-append, append_assoc}
 use Rattle.std.proofs.lemmas.Option.{same_Some}
 use Rattle.std.proofs.lemmas.Bool.Decides.{nat_tests}
 use Rattle.std.proofs.lemmas.List.{length-replicate, append-nil}
 use Rattle.std.specs.List.{flat_map}
 use Rattle.omci_types.specs.declared.EntityId.{EntityId}
 use Rattle.class_spec.specs.Classes.{Attribute}
-use Rattle.mib_spec.specs.declared.TheConstants.{MOST_ENTITIES}
 use Rattle.mib_spec.specs.Database.{Database, Values, bytes_of}
-use Rattle.mib_spec.specs.Requests.{with_zeros}
 use Rattle.upload_spec.specs.declared.TheConstants.{PIECE_ROOM, PIECE_BYTES}
 use Rattle.upload_spec.specs.Pieces.{Copy, fits, current, ended, groups_from, groups, piece_of, pieces_of, pieces, piece_at, without_makers}
 use Rattle.upload_laws.specs.Shaped.{IsShaped, IsWholeEntry, IsWhole}

@@ -1,8 +1,8 @@
 -- What an end reads of a packet that the other made.
-use Rattle.std.proofs.Common.{◌≡◌, ◌≢◌, ℕ, zero, suc, ◌+◌, ◌-◌, ◌<◌, ◌≤◌, ◌^◌, Bool, true, false, cond, List, [], ◌∷◌, ◌++◌, length, take, drop, replicate, Option, Some, None, Result, Ok, Err, refl, sym, ap, subst, ◌∙◌, arith, append_assoc, eqb, ◌==◌, length-drop}
+use Rattle.std.proofs.Common.{◌≡◌, ◌≢◌, ℕ, ◌+◌, ◌<◌, ◌^◌, Bool, true, false, cond, List, [], ◌++◌, length, take, drop, replicate, Option, Some, None, Ok, refl, sym, ap, subst, ◌∙◌, arith, append_assoc, ◌==◌, length-drop}
 use Rattle.std.proofs.lemmas.Option.{same_Some}
 use Rattle.std.proofs.lemmas.Bool.{eqb-true, false≢true}
-use Rattle.std.proofs.lemmas.List.{take_at, drop_at, append-nil, length-take-le}
+use Rattle.std.proofs.lemmas.List.{take_at, append-nil, length-take-le}
 use Rattle.std.proofs.lemmas.Nat.{from_be_bytes-to_be_bytes_2}
 use Rattle.std.specs.Int.{from_be_bytes, to_be_bytes, w16, w32}
 use Rattle.omci_types.specs.declared.EntityId.{EntityId}
@@ -12,17 +12,14 @@ use Rattle.frame_spec.specs.declared.FrameFault.{FrameFault}
 use Rattle.frame_spec.specs.declared.TheConstants.{BASELINE_TRAILER}
 use Rattle.frame_spec.specs.Checksum.{crc}
 use Rattle.frame_spec.specs.Baseline.{checked_bytes, spelling, number_at, frame_of, fault_of, frame_unless, packet_frame}
-use Rattle.message_spec.specs.declared.Message.{Message}
-use Rattle.message_spec.specs.declared.Message.TheVariants.{Asked, Answered, Told}
+use Rattle.message_spec.specs.declared.Message.TheVariants.{Asked, Answered}
 use Rattle.message_spec.specs.declared.Request.{Request}
 use Rattle.message_spec.specs.declared.Request.TheVariants as request
-use Rattle.message_spec.specs.declared.Response.{Response}
 use Rattle.message_spec.specs.declared.Response.TheVariants as response
-use Rattle.message_spec.specs.declared.ContentsFault.{ContentsFault}
 use Rattle.message_spec.specs.declared.Action.TheVariants as action
 use Rattle.message_spec.specs.declared.Kind.{Kind}
 use Rattle.message_spec.specs.declared.Kind.TheVariants as kinds
-use Rattle.message_spec.specs.Fields.{values_at, put, put_values, padding}
+use Rattle.message_spec.specs.Fields.{values_at, put, padding}
 use Rattle.message_spec.specs.Types.{type_numbered, kind_of, layout}
 use Rattle.message_spec.specs.Reading.{plain, message_of, message_typed, message_with}
 use Rattle.manager_spec.specs.Steps.{response_in, response_of}
@@ -110,7 +107,7 @@ read_of h g e =
 
 -- ---- messages
 
-message_read : (h g : Frame) → IsReadOf h g → (k : Kind) → kind_of h.kind ≡ Ok k
+pub message_read : (h g : Frame) → IsReadOf h g → (k : Kind) → kind_of h.kind ≡ Ok k
     → message_of g ≡ Ok (message_with k g.tci g.entity (values_at (layout k) g.contents))
 unfolding message_of
 message_read h g r k e = ap (λ n. message_typed g (kind_of n)) r.kind ∙ ap (message_typed g) e

@@ -1,16 +1,17 @@
 -- A script keeps all well, line by line. What the channel promises of the packets that may come next
 -- is taken from the laws of both ends.
-use Rattle.std.proofs.Common.{◌≡◌, ℕ, zero, suc, ◌+◌, ◌<◌, ◌≤◌, Bool, true, false, cond, List, [], ◌∷◌, ◌++◌, length, Option, Some, None, refl, sym, ap, subst, ◌∙◌, arith, append-nil}
+use Rattle.std.proofs.Common.{◌≡◌, ℕ, zero, suc, ◌+◌, ◌<◌, true, false, List, [], ◌∷◌, ◌++◌, Option, Some, None, refl, sym, ap, subst, ◌∙◌, arith, append-nil}
 use Rattle.std.proofs.lemmas.List.Elements.{All-nil, All-cons, All-head, All-tail}
 use Rattle.std.specs.Prelude.{slice_index_or}
 use Rattle.std.specs.List.{All, Contains}
 use Rattle.omci_types.specs.declared.Priority.{Priority}
-use Rattle.omci_types.specs.declared.Priority.TheVariants.{Low, High}
+use Rattle.omci_types.specs.declared.Priority.TheVariants.{Low}
 use Rattle.tci_spec.specs.Tci.{IsNumber}
 use Rattle.message_spec.specs.declared.Request.TheVariants as request
 use Rattle.frame_spec.specs.Baseline.{spelling}
 use Rattle.frame_spec.specs.Widths.{filled}
-use Rattle.script_spec.specs.Script.{Header, Action, Probe, Reset, Get, Create, Set, Delete, Resync, Check, Deliver, Flow, NoiseUnit, NoiseOlt, Tick, CutUnit, CutOlt, StartUnit, StartOlt, IsAction}
+use Rattle.alarm_spec.specs.declared.TheConstants.{BITMAP_BYTES}
+use Rattle.script_spec.specs.Script.{Header, Action, Probe, Reset, Get, Create, Set, Delete, Resync, Audit, Check, Deliver, Flow, NoiseUnit, NoiseOlt, Tick, Sense, Alarm, CutUnit, CutOlt, StartUnit, StartOlt, IsAction}
 use Rattle.link_spec.specs.declared.Direction.{Direction}
 use Rattle.link_spec.specs.declared.Direction.TheVariants.{Down, Up}
 use Rattle.link_spec.specs.Link.{Sent, allowed}
@@ -22,12 +23,10 @@ use Rattle.history_spec.specs.History.{WasCarried, LastReply, SyncedRight}
 use Rattle.world_spec.specs.Happenings.{Happening, PacketCame}
 use Rattle.world_spec.specs.Ends.{Ends, Step, unit_got, manager_got, arrives_at, arrives}
 use Rattle.world_spec.specs.Nodes.{Nodes, Turn, first_nodes, delivery_of, delivery, nodes_after_step, flow_from, oldest_fresh, flow, acted, next_event, turn_of, step, nodes_after}
-use Rattle.world_spec.specs.History.{Told, first_told, drawn_in, name_at, tell_all, told_after, history_of}
+use Rattle.world_spec.specs.History.{Told, first_told, drawn_in, tell_all, told_after, history_of}
 use Rattle.world_laws.specs.Facts.{AreReached, MayBeCarriedOut, MayBeTaken, IsAwaited}
 use Rattle.resync_laws.specs.Databases.{IsWholeDatabase}
-use Rattle.resync_laws.proofs.Taking.{IsOwn}
-use Rattle.resync_laws.proofs.Serving.{IsWaited}
-use Rattle.resync_laws.proofs.Lines.{Fine, StepFine, both_fine, probe_fine, submit_fine, check_fine, resync_fine, second_fine, cut_unit_fine, cut_manager_fine, start_unit_fine, start_manager_fine, noise_fine, Linked, delivery_fine, first_fine}
+use Rattle.resync_laws.proofs.Lines.{Fine, StepFine, both_fine, probe_fine, submit_fine, check_fine, resync_fine, audit_fine, sense_fine, alarm_fine, second_fine, cut_unit_fine, cut_manager_fine, start_unit_fine, start_manager_fine, noise_fine, Linked, delivery_fine, first_fine}
 
 -- ---- what the channel promises
 
@@ -56,10 +55,10 @@ pub record Promises : Type 0 where
 
 -- ---- nodes at another line of the script
 
-abbrev with_event : ℕ → Nodes → Nodes
+abbrev pub with_event : ℕ → Nodes → Nodes
 with_event k n = record n { ends = record n.ends { event = k } }
 
-abbrev at_event : ℕ → Step → Step
+abbrev pub at_event : ℕ → Step → Step
 at_event k s = record { ends = record s.ends { event = k }; happenings = s.happenings }
 
 unit_event : (first : List Happening) (bytes : List ℕ) (o : Option Onu) (e : Ends) (k : ℕ)
@@ -118,7 +117,7 @@ unfolding told_after nodes_after
 told_more [] a n t = refl
 told_more (b ∷ rest) a n t = told_more rest a (step b n).nodes (tell_all (step b n).happenings t)
 
-reach_step : (a : Action) (n : Nodes) (t : Told) → AreReached n t → IsAction a
+pub reach_step : (a : Action) (n : Nodes) (t : Told) → AreReached n t → IsAction a
     → AreReached (step a n).nodes (tell_all (step a n).happenings t)
 reach_step a n t r allowed = record {
   header = r.header;
@@ -141,7 +140,7 @@ turn_is : (k number : ℕ) (n : Nodes) → oldest_fresh n ≡ Some number
 unfolding step acted
 turn_is k number n e = ap (λ s. turn_of s (with_event k n)) (flow_one (k + 1) number n e)
 
-reach_fresh : (k number : ℕ) (n : Nodes) (t : Told) → oldest_fresh n ≡ Some number
+pub reach_fresh : (k number : ℕ) (n : Nodes) (t : Told) → oldest_fresh n ≡ Some number
     → AreReached (with_event k n) t
     → AreReached (with_event (k + 1) (nodes_after_step (delivery number n) n)) (tell_all (delivery number n).happenings t)
 reach_fresh k number n t e r =
@@ -150,7 +149,7 @@ reach_fresh k number n t e r =
 
 -- ---- what is known of the next packets
 
-first_at : (x y : List ℕ) (k : ℕ) → k < 1 → slice_index_or (x ∷ []) k y ≡ y → y ≡ x
+pub first_at : (x y : List ℕ) (k : ℕ) → k < 1 → slice_index_or (x ∷ []) k y ≡ y → y ≡ x
 first_at x y zero lt e = sym e
 first_at x y (suc k) lt e = absurd (omega arith)
 
@@ -159,7 +158,7 @@ one_packet : (w : Waiting) (bytes : List ℕ) → Contains (waiting_packets (Som
 one_packet w bytes h = first_at (spelling (command_frame w.tci w.command)) bytes h.0 h.1 h.2
 
 module _ (p : Promises) where
-  linked_of : (k : ℕ) (n : Nodes) (t : Told) → AreReached (with_event k n) t → Linked n t
+  pub linked_of : (k : ℕ) (n : Nodes) (t : Told) → AreReached (with_event k n) t → Linked n t
   linked_of k n t r = record {
     waited = λ number s u on may way m note managed proved lane does.
         let x = p.awaited Low (with_event k n) t number s u m r managed proved
@@ -204,12 +203,15 @@ module _ (p : Promises) where
   acted_fine (Set lane entity mask values) k n t f r h = submit_fine n t f lane entity (request.Set mask (filled 30 values)) refl
   acted_fine (Delete lane entity) k n t f r h = submit_fine n t f lane entity request.Delete refl
   acted_fine Resync k n t f r h = resync_fine n t f
+  acted_fine Audit k n t f r h = audit_fine n t f
   acted_fine Check k n t f r h = check_fine n t f
   acted_fine (Deliver number) k n t f r h = delivery_fine number n t f (linked_of k n t r)
   acted_fine (Flow times) k n t f r h = flow_fine times n t k f r
   acted_fine (NoiseUnit bytes) k n t f r h = noise_fine Down bytes n t f h.0.0
   acted_fine (NoiseOlt bytes) k n t f r h = noise_fine Up bytes n t f h.0.0
   acted_fine Tick k n t f r h = second_fine n t f
+  acted_fine (Sense entity number value) k n t f r h = sense_fine entity number value n t f
+  acted_fine (Alarm entity bitmap) k n t f r h = alarm_fine entity (filled BITMAP_BYTES bitmap) n t f
   acted_fine CutUnit k n t f r h = cut_unit_fine n t f n.ends.unit
   acted_fine CutOlt k n t f r h = cut_manager_fine n t f n.ends.manager
   acted_fine StartUnit k n t f r h = start_unit_fine n t f n.ends.unit
@@ -231,7 +233,7 @@ module _ (p : Promises) where
       script_fine rest (step a n).nodes (tell_all (step a n).happenings t) (step_fine a n t f r one)
       (reach_step a n t r one) (All-tail IsAction a rest h)
 
-  first_reached : (h : Header) → IsNumber h.low → IsNumber h.high
+  pub first_reached : (h : Header) → IsNumber h.low → IsNumber h.high
       → AreReached (first_nodes h) first_told
   unfolding nodes_after told_after
   first_reached h a b = record {
@@ -255,7 +257,7 @@ module _ (p : Promises) where
       → All IsAction actions → SyncedRight (history_of h actions)
   history_synced h actions a b f = (all_fine h actions a b f).good.right
 
-  reached_fine : (n : Nodes) (t : Told) → AreReached n t → Fine n t
+  pub reached_fine : (n : Nodes) (t : Told) → AreReached n t → Fine n t
   reached_fine n t r =
       subst (λ m. Fine m t) r.nodes
       (subst (λ u. Fine (nodes_after r.actions (first_nodes r.header)) u) r.told

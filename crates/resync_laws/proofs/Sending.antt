@@ -1,20 +1,18 @@
 -- What a packet more on the link keeps: of a command that is drawn, and of one that is sent again.
-use Rattle.std.proofs.Common.{◌≡◌, ◌≢◌, ℕ, zero, suc, ◌+◌, ◌<◌, ◌≤◌, ◌^◌, Bool, true, false, cond, List, [], ◌∷◌, ◌++◌, length, Option, Some, None, ◌⊎◌, inl, inr, refl, sym, ap, subst, ◌∙◌, arith, eqb, ◌==◌}
+use Rattle.std.proofs.Common.{◌≡◌, ◌≢◌, ℕ, ◌+◌, ◌≤◌, Bool, true, false, cond, List, [], ◌∷◌, ◌++◌, Option, Some, None, inl, inr, refl, sym, ap, subst, ◌∙◌, arith, ◌==◌}
 use Rattle.std.proofs.lemmas.Option.{same_Some}
-use Rattle.std.proofs.lemmas.Bool.{eqb-true, eqb-false}
-use Rattle.std.proofs.lemmas.Bool.Decides.{nat_tests}
-use Rattle.omci_types.specs.declared.Priority.{Priority}
-use Rattle.omci_types.specs.declared.Priority.TheVariants.{Low, High}
-use Rattle.tci_spec.specs.Tci.{number_after, tci_of}
+use Rattle.std.proofs.lemmas.Bool.{eqb-false}
+use Rattle.omci_types.specs.declared.Priority.TheVariants.{Low}
+use Rattle.tci_spec.specs.Tci.{tci_of}
 use Rattle.frame_spec.specs.Baseline.{spelling}
-use Rattle.link_spec.specs.declared.Direction.TheVariants.{Down, Up}
+use Rattle.link_spec.specs.declared.Direction.TheVariants.{Down}
 use Rattle.link_spec.specs.Link.{Sent, lane_of}
 use Rattle.lane_spec.specs.Command.{Command, command_frame}
 use Rattle.lane_spec.specs.Lane.{Lane, Waiting, next_tci, with_command}
 use Rattle.unit_spec.specs.Onu.{Onu}
 use Rattle.world_spec.specs.History.{Told}
 use Rattle.resync_laws.proofs.Reading.{is_plain}
-use Rattle.resync_laws.proofs.Invariants.{AllSent, sent_more, sent_map, IsMade, IsSent, IsApart, is_job, HighOut, Lanes, Held, goes_low, not_high}
+use Rattle.resync_laws.proofs.Invariants.{sent_more, sent_map, IsSent, IsApart, is_job, Held, goes_low, not_high}
 
 -- the packet of a command
 abbrev pub packet_of : ℕ → Command → Sent
@@ -43,12 +41,12 @@ held_low asks c packets unit low high t h free = record {
   sent =
       sent_more (IsSent (t.drawn + 1)) packets t.names (packet_of (next_tci low) c) t.drawn
       (sent_map (IsSent t.drawn) (IsSent (t.drawn + 1)) packets t.names
-      (λ s name p. (omega (arith, p.0), p.1)) h.sent)
-      (omega arith, λ d. record { tci = next_tci low; command = c; bytes = refl; lane = inl in_low });
+      (λ s name p d. let k = p d in let lt = k.0 in (omega (arith, lt), k.1)) h.sent)
+      (λ d. (omega arith, record { tci = next_tci low; command = c; bytes = refl; lane = inl in_low }));
   apart = λ w e.
       sent_more (IsApart t.drawn) packets t.names (packet_of (next_tci low) c) t.drawn
       (sent_map (IsSent t.drawn) (IsApart t.drawn) packets t.names
-      (λ s name p d l. let lt = p.0 in λ same. absurd (omega (arith, lt, same))) h.sent)
+      (λ s name p d l. let lt = (p d).0 in λ same. absurd (omega (arith, lt, same))) h.sent)
       (λ d l. not_high (spelling (command_frame (next_tci low) c)) in_low l);
   lanes = record {
     priority = h.lanes.priority;
@@ -89,8 +87,8 @@ held_high c packets unit low high t h free plainly callers = record {
   sent =
       sent_more (IsSent (t.drawn + 1)) packets t.names (packet_of (next_tci high) c) t.drawn
       (sent_map (IsSent t.drawn) (IsSent (t.drawn + 1)) packets t.names
-      (λ s name p. (omega (arith, p.0), p.1)) h.sent)
-      (omega arith, λ d. record { tci = next_tci high; command = c; bytes = refl; lane = inr plainly });
+      (λ s name p d. let k = p d in let lt = k.0 in (omega (arith, lt), k.1)) h.sent)
+      (λ d. (omega arith, record { tci = next_tci high; command = c; bytes = refl; lane = inr plainly }));
   apart = λ w e.
       let before = (h.lanes.low_out w e).1 in
       sent_more (IsApart t.low) packets t.names (packet_of (next_tci high) c) t.drawn
@@ -184,7 +182,7 @@ low_again w packets unit low high t h e =
     record {
       sent =
           sent_more (IsSent t.drawn) packets t.names (packet_of w.tci w.command) t.low h.sent
-          (k.1, λ d. record { tci = w.tci; command = w.command; bytes = refl; lane = inl in_low });
+          (λ d. (k.1, record { tci = w.tci; command = w.command; bytes = refl; lane = inl in_low }));
       apart = λ x f.
           sent_more (IsApart t.low) packets t.names (packet_of w.tci w.command) t.low (h.apart x f)
           (λ d l. not_high (spelling (command_frame w.tci w.command)) in_low l);
@@ -206,10 +204,10 @@ high_again w packets unit low high t h e =
     let k = h.lanes.high_out w e in
     record {
       sent =
-          sent_more (IsSent t.drawn) packets t.names (packet_of w.tci w.command) t.high h.sent (
+          sent_more (IsSent t.drawn) packets t.names (packet_of w.tci w.command) t.high h.sent (λ d. (
             k.drawn_before,
-            λ d. record { tci = w.tci; command = w.command; bytes = refl; lane = inr k.plainly },
-          );
+            record { tci = w.tci; command = w.command; bytes = refl; lane = inr k.plainly },
+          ));
       apart = λ x f.
           sent_more (IsApart t.low) packets t.names (packet_of w.tci w.command) t.high (h.apart x f)
           (λ d l. k.apart x f);

@@ -1,5 +1,5 @@
 -- Packets that come to the unit.
-use Rattle.std.proofs.Common.{◌≡◌, ◌≢◌, ℕ, ◌+◌, ◌<◌, ◌≤◌, ◌^◌, Bool, true, false, cond, List, [], ◌∷◌, ◌++◌, length, replicate, slice_get, Option, Some, None, ◌⊎◌, inl, inr, refl, sym, ap, subst, ◌∙◌, arith}
+use Rattle.std.proofs.Common.{◌≡◌, ◌≢◌, ℕ, ◌<◌, ◌^◌, true, List, [], ◌∷◌, ◌++◌, length, replicate, slice_get, Option, Some, None, ◌⊎◌, inl, inr, refl, sym, ap, subst, ◌∙◌, arith}
 use Rattle.std.proofs.lemmas.Option.{same_Some}
 use Rattle.omci_types.specs.declared.Frame.{Frame}
 use Rattle.omci_types.specs.declared.Priority.{Priority}
@@ -11,42 +11,41 @@ use Rattle.message_spec.specs.declared.Request.TheVariants as request
 use Rattle.message_spec.specs.declared.Response.TheVariants as response
 use Rattle.message_spec.specs.Reading.{plain}
 use Rattle.mib_spec.specs.Database.{Database}
-use Rattle.upload_spec.specs.Pieces.{Copy, pieces, piece_at, without_makers}
+use Rattle.upload_spec.specs.Pieces.{Copy, piece_at, without_makers}
 use Rattle.upload_laws.specs.Shaped.{IsWhole}
 use Rattle.retry_spec.specs.Kept.{kept_with}
 use Rattle.link_spec.specs.declared.Direction.TheVariants.{Down, Up}
 use Rattle.link_spec.specs.Link.{Sent, Link, lane_of}
 use Rattle.lane_spec.specs.Command.{Command, sync_entity, job_command, command_frame}
 use Rattle.lane_spec.specs.Lane.{Lane, Waiting}
-use Rattle.manager_spec.specs.Manager.{Stage, Probing, Asking, Gathering, Manager}
-use Rattle.unit_spec.specs.declared.Did.{Did}
+use Rattle.manager_spec.specs.Manager.{Stage, Probing, Asking, Gathering, AskingAlarms, GatheringRows, Manager}
 use Rattle.unit_spec.specs.declared.Did.TheVariants as did
 use Rattle.unit_spec.specs.declared.Note.{Note}
 use Rattle.unit_spec.specs.declared.Note.TheVariants as note
-use Rattle.unit_spec.specs.Onu.{Onu, Snapshot, Reception, Answer, drop_packet, response_frame, upload, upload_next, or_zeros, next_piece, fresh_again, keep_reply, onu_received}
-use Rattle.history_spec.specs.History.{Entry, CarriedOut, Remarked, WasCarried, LastReply, LastSnapshot, SyncedRight}
-use Rattle.world_spec.specs.Happenings.{Happening, PacketCame, link_read}
+use Rattle.unit_spec.specs.Onu.{Onu, Snapshot, Reception, Answer, response_frame, upload, upload_next, or_zeros, next_piece, fresh_again, onu_received}
+use Rattle.history_spec.specs.History.{Entry, CarriedOut, Remarked, WasCarried, LastSnapshot, SyncedRight}
+use Rattle.world_spec.specs.Happenings.{PacketCame, link_read}
 use Rattle.world_spec.specs.Ends.{unit_deed}
 use Rattle.world_spec.specs.History.{Told, name_at, remark_of, tell_all}
 use Rattle.resync_laws.specs.Databases.{IsWholeDatabase}
 use Rattle.resync_laws.proofs.Pieces.{pieces_counted, piece_whole}
-use Rattle.resync_laws.proofs.Reading.{is_plain}
 use Rattle.resync_laws.proofs.Unit.{IsAside, Leaves, Carries, Receives, receives, carries_whole, carries_aside, carries_upload, carries_next}
-use Rattle.resync_laws.proofs.Invariants.{AllSent, sent_more, sent_at, IsMade, IsSent, IsApart, Lanes, not_high, Counted, Asks, Gathers, IsPiece, AsksNext, AtStage, JobOk, Good}
+use Rattle.resync_laws.proofs.Invariants.{sent_more, sent_at, IsMade, IsSent, IsApart, not_high, Counted, Asks, Gathers, IsPiece, AtStage, Good}
 
 -- ---- the history after a request was carried out
 
-abbrev pub history_after : Option Note → (lives came : ℕ) → List ℕ → Database → List Entry → List Entry
-history_after None lives came reply before history = CarriedOut lives came reply before ∷ history
+abbrev pub history_after : Option Note → (lives came : ℕ) → List ℕ → Onu → List Entry → List Entry
+history_after None lives came reply before history =
+    CarriedOut lives came reply before.database ∷ history
 history_after (Some n) lives came reply before history =
-    Remarked (remark_of lives came n before) ∷ CarriedOut lives came reply before ∷ history
+    Remarked (remark_of lives came n before) ∷ CarriedOut lives came reply before.database ∷ history
 
 -- the unit once the reply is kept
 abbrev pub unit_after : ℕ → Answer → Onu
 unit_after tci a = record a.unit { kept = kept_with tci (spelling a.reply) a.unit.kept }
 
 -- the stage after that answer
-abbrev StageAfter : (lives : ℕ) → Lane → (tlow asking came tci : ℕ) → Database → List Entry → Stage
+abbrev StageAfter : (lives : ℕ) → Lane → (tlow asking came tci : ℕ) → Onu → List Entry → Stage
     → Answer → Type 0
 StageAfter lives low tlow asking came tci before history s a =
     AtStage lives (Some (unit_after tci a)) low tlow asking
@@ -87,6 +86,8 @@ module _ (lives : ℕ) (u : Onu) (low : Lane) (tlow asking came : ℕ) (history 
           | inr e ↦ h.fresh u s refl e mine
         ];
   }
+  aside_stage reply before after same apart AskingAlarms h = tt
+  aside_stage reply before after same apart (GatheringRows expected next) h = tt
   aside_stage reply before after same apart (Gathering expected next copy) h =
       let g : Gathers (Some after) asking (CarriedOut lives came reply before ∷ history) expected next copy = record {
         database = h.0.database;
@@ -112,25 +113,25 @@ module _ (lives : ℕ) (u : Onu) (low : Lane) (tlow asking came : ℕ) (history 
       )
 
   -- the same, whatever its answer
-  aside_after : (tci : ℕ) (before : Database) (a : Answer) → IsAside u a → came ≢ tlow → (s : Stage)
+  aside_after : (tci : ℕ) (before : Onu) (a : Answer) → IsAside u a → came ≢ tlow → (s : Stage)
       → AtStage lives (Some u) low tlow asking history s
       → StageAfter lives low tlow asking came tci before history s a
   aside_after tci before a aside apart s h =
       subst (λ n. AtStage lives (Some (unit_after tci a)) low tlow asking (history_after n lives came (spelling a.reply) before history) s)
-      (sym aside.note) (aside_stage (spelling a.reply) before (unit_after tci a) aside.snapshot apart s h)
+      (sym aside.note) (aside_stage (spelling a.reply) before.database (unit_after tci a) aside.snapshot apart s h)
 
   -- ---- the job's upload
 
   upload_after : (tci : ℕ) (f : Frame) → came ≡ tlow → IsWholeDatabase u.database
       → Asks lives (Some u) low tlow asking history
-      → StageAfter lives low tlow asking came tci u.database history Asking (upload f u)
+      → StageAfter lives low tlow asking came tci u history Asking (upload f u)
   upload_after tci f own whole h = record {
     proved = h.proved;
     waiting = h.waiting;
     waits = h.waits;
     command = h.command;
     own = h.own;
-    reply = λ r last. elim last as (λ _. Counted tlow r (history_after (upload f u).note lives came (spelling (upload f u).reply) u.database history)) [
+    reply = λ r last. elim last as (λ _. Counted tlow r (history_after (upload f u).note lives came (spelling (upload f u).reply) u history)) [
       | inl e ↦ record {
         database = without_makers u.database;
         whole = whole.whole;
@@ -174,12 +175,12 @@ module _ (lives : ℕ) (u : Onu) (low : Lane) (tlow asking came : ℕ) (history 
   again_from None s e = absurd (cc)
   again_from (Some x) s e = (x, refl, ap (λ (y : Snapshot). y.database) (same_Some (record x { age = 0 }) s e))
 
-  next_after : (tci : ℕ) (f : Frame) (before : Database) (expected next : ℕ) (copy : Copy)
+  next_after : (tci : ℕ) (f : Frame) (before : Onu) (expected next : ℕ) (copy : Copy)
       → AtStage lives (Some u) low tlow asking history (Gathering expected next copy)
       → StageAfter lives low tlow asking came tci before history (Gathering expected next copy) (upload_next f next u)
   next_after tci f before expected next copy h =
       let a : Answer = upload_next f next u in
-      let g : Gathers (Some (unit_after tci a)) asking (CarriedOut lives came (spelling a.reply) before ∷ history) expected next copy = record {
+      let g : Gathers (Some (unit_after tci a)) asking (CarriedOut lives came (spelling a.reply) before.database ∷ history) expected next copy = record {
         database = h.0.database;
         whole = h.0.whole;
         few = h.0.few;
@@ -220,12 +221,12 @@ AreWaited manager t number s u =
     → lane_of s.bytes ≡ Low → (onu_received s.bytes u).did ≡ did.Carried n
     → IsWaited m.low t number s.bytes
 
-command_bytes : (tci : ℕ) (c : Command) (bytes : List ℕ) → bytes ≡ spelling (command_frame tci c)
+pub command_bytes : (tci : ℕ) (c : Command) (bytes : List ℕ) → bytes ≡ spelling (command_frame tci c)
     → bytes ≡ spelling (plain (Asked tci c.entity c.request))
 unfolding command_frame
 command_bytes tci c bytes e = e
 
-waited_bytes : (tci : ℕ) (c : Command) (r : Request) (bytes : List ℕ)
+pub waited_bytes : (tci : ℕ) (c : Command) (r : Request) (bytes : List ℕ)
     → bytes ≡ spelling (command_frame tci c) → c ≡ job_command sync_entity r
     → bytes ≡ spelling (plain (Asked tci sync_entity r))
 waited_bytes tci c r bytes e same =
@@ -247,7 +248,7 @@ module _ (number : ℕ) (s : Sent) (link : Link) (lives : ℕ) (u : Onu) (manage
   sent_is = sent_at (IsSent t.drawn) link.packets t.names number s h.sent there
 
   made : IsMade s
-  made = sent_is.1 way
+  made = (sent_is way).1
 
   -- nothing is carried out
   dropped_good : Good link.packets lives (Some u) manager (record t { came = name_at number t.names; packet = s.bytes })
@@ -266,7 +267,7 @@ module _ (number : ℕ) (s : Sent) (link : Link) (lives : ℕ) (u : Onu) (manage
       (record t { came = name_at number t.names; packet = s.bytes; names = t.names ++ name_at number t.names ∷ [] })
   unfolding came
   kept_good reply = record {
-    sent = sent_more (IsSent t.drawn) link.packets t.names _ _ h.sent (sent_is.0, λ d. absurd (cc));
+    sent = sent_more (IsSent t.drawn) link.packets t.names _ _ h.sent (λ d. absurd (cc));
     apart = λ m w e f. sent_more (IsApart t.low) link.packets t.names _ _ (h.apart m w e f) (λ d. absurd (cc));
     lanes = h.lanes;
     job = h.job;
@@ -289,14 +290,16 @@ module _ (number : ℕ) (s : Sent) (link : Link) (lives : ℕ) (u : Onu) (manage
 
     -- the job after it
     low_stage : (m : Manager) → manager ≡ Some m → lane_of s.bytes ≡ Low → (x : Stage) → AtStage lives (Some u) m.low t.low t.asking t.history x
-        → StageAfter lives m.low t.low t.asking (name_at number t.names) c.frame.tci u.database t.history x answered
+        → StageAfter lives m.low t.low t.asking (name_at number t.names) c.frame.tci u t.history x answered
     low_stage m e lane (Probing high' low') at = tt
+    low_stage m e lane AskingAlarms at = tt
+    low_stage m e lane (GatheringRows expected next) at = tt
     low_stage m e lane Asking at =
         let k = waited m answered.note e at.proved lane (ap (λ (r : Reception). r.did) c.is) in
         let same : k.waiting ≡ at.waiting = same_Some k.waiting at.waiting (sym k.waits ∙ at.waits) in
         let command = ap (λ (w : Waiting). w.command) same ∙ at.command in
         let is = carries_upload k.waiting.tci sync_entity s.bytes u (onu_received s.bytes u) (waited_bytes k.waiting.tci k.waiting.command request.Upload s.bytes k.bytes_are command) c in
-        subst (StageAfter lives m.low t.low t.asking (name_at number t.names) c.frame.tci u.database t.history Asking) (sym is)
+        subst (StageAfter lives m.low t.low t.asking (name_at number t.names) c.frame.tci u t.history Asking) (sym is)
         (upload_after lives u m.low t.low t.asking (name_at number t.names) t.history c.frame.tci c.frame k.name (h.whole u refl) at)
     low_stage m e lane (Gathering expected next copy) at =
         let k = waited m answered.note e at.1.proved lane (ap (λ (r : Reception). r.did) c.is) in
@@ -304,8 +307,8 @@ module _ (number : ℕ) (s : Sent) (link : Link) (lives : ℕ) (u : Onu) (manage
         let command = ap (λ (w : Waiting). w.command) same ∙ at.1.command in
         let small : next < 2 ^ 16 = (let a = at.0.less in let b = at.0.count in let d = at.0.few in omega (arith, a, b, d)) in
         let is = carries_next k.waiting.tci sync_entity next s.bytes u (onu_received s.bytes u) (waited_bytes k.waiting.tci k.waiting.command (request.UploadNext next) s.bytes k.bytes_are command) small c in
-        subst (StageAfter lives m.low t.low t.asking (name_at number t.names) c.frame.tci u.database t.history (Gathering expected next copy)) (sym is)
-        (next_after lives u m.low t.low t.asking (name_at number t.names) t.history c.frame.tci c.frame u.database expected next copy at)
+        subst (StageAfter lives m.low t.low t.asking (name_at number t.names) c.frame.tci u t.history (Gathering expected next copy)) (sym is)
+        (next_after lives u m.low t.low t.asking (name_at number t.names) t.history c.frame.tci c.frame u expected next copy at)
 
     high_aside : lane_of s.bytes ≡ High → IsAside u answered
     high_aside lane = elim made.lane as (λ _. IsAside u answered) [
@@ -317,17 +320,19 @@ module _ (number : ℕ) (s : Sent) (link : Link) (lives : ℕ) (u : Onu) (manage
     name_apart m w e waits lane = sent_at (IsApart t.low) link.packets t.names number s (h.apart m w e waits) there way lane
 
     high_stage : (m : Manager) → manager ≡ Some m → lane_of s.bytes ≡ High → (x : Stage) → AtStage lives (Some u) m.low t.low t.asking t.history x
-        → StageAfter lives m.low t.low t.asking (name_at number t.names) c.frame.tci u.database t.history x answered
+        → StageAfter lives m.low t.low t.asking (name_at number t.names) c.frame.tci u t.history x answered
     high_stage m e lane (Probing high' low') at = tt
+    high_stage m e lane AskingAlarms at = tt
+    high_stage m e lane (GatheringRows expected next) at = tt
     high_stage m e lane Asking at =
-        aside_after lives u m.low t.low t.asking (name_at number t.names) t.history c.frame.tci u.database answered (high_aside lane)
+        aside_after lives u m.low t.low t.asking (name_at number t.names) t.history c.frame.tci u answered (high_aside lane)
         (name_apart m at.waiting e at.waits lane) Asking at
     high_stage m e lane (Gathering expected next copy) at =
-        aside_after lives u m.low t.low t.asking (name_at number t.names) t.history c.frame.tci u.database answered (high_aside lane)
+        aside_after lives u m.low t.low t.asking (name_at number t.names) t.history c.frame.tci u answered (high_aside lane)
         (name_apart m at.1.waiting e at.1.waits lane) (Gathering expected next copy) at
 
     stage_by : (l : Priority) → lane_of s.bytes ≡ l → (m : Manager) → manager ≡ Some m → (x : Stage) → AtStage lives (Some u) m.low t.low t.asking t.history x
-        → StageAfter lives m.low t.low t.asking (name_at number t.names) c.frame.tci u.database t.history x answered
+        → StageAfter lives m.low t.low t.asking (name_at number t.names) c.frame.tci u t.history x answered
     stage_by Low lane m e x at = low_stage m e lane x at
     stage_by High lane m e x at = high_stage m e lane x at
 
@@ -345,29 +350,30 @@ module _ (number : ℕ) (s : Sent) (link : Link) (lives : ℕ) (u : Onu) (manage
       came = name_at number t.names;
       packet = s.bytes;
       names = t.names ++ name_at number t.names ∷ [];
-      history = history_after n lives (name_at number t.names) (spelling answered.reply) u.database t.history;
+      history = history_after n lives (name_at number t.names) (spelling answered.reply) u t.history;
     }
 
-    carried_by : (n : Option Note) → (life command : ℕ) → WasCarried life command (history_after n lives (name_at number t.names) (spelling answered.reply) u.database t.history) → command < t.drawn
+    carried_by : (n : Option Note) → (life command : ℕ) → WasCarried life command (history_after n lives (name_at number t.names) (spelling answered.reply) u t.history) → command < t.drawn
     unfolding came
-    carried_by None life command (inl e) = subst (λ x. x < t.drawn) e.1 sent_is.0
+    carried_by None life command (inl e) = subst (λ x. x < t.drawn) e.1 (sent_is way).0
     carried_by None life command (inr e) = h.carried life command e
-    carried_by (Some n) life command (inl e) = subst (λ x. x < t.drawn) e.1 sent_is.0
+    carried_by (Some n) life command (inl e) = subst (λ x. x < t.drawn) e.1 (sent_is way).0
     carried_by (Some n) life command (inr e) = h.carried life command e
 
-    right_by : (n : Option Note) → SyncedRight (history_after n lives (name_at number t.names) (spelling answered.reply) u.database t.history)
+    right_by : (n : Option Note) → SyncedRight (history_after n lives (name_at number t.names) (spelling answered.reply) u t.history)
     right_by None = h.right
     right_by (Some (note.Snapshot entities counter)) = h.right
+    right_by (Some (note.Alarms rows)) = h.right
 
     carried_good : (n : Option Note) → answered.note ≡ n
         → Good (link.packets ++ record { direction = Up; bytes = spelling answered.reply } ∷ []) lives (Some after) manager (told n)
     unfolding came
     carried_good n is = record {
-      sent = sent_more (IsSent t.drawn) link.packets t.names _ _ h.sent (sent_is.0, λ d. absurd (cc));
+      sent = sent_more (IsSent t.drawn) link.packets t.names _ _ h.sent (λ d. absurd (cc));
       apart = λ m w e f. sent_more (IsApart t.low) link.packets t.names _ _ (h.apart m w e f) (λ d. absurd (cc));
       lanes = h.lanes;
       job = λ m e x g.
-          subst (λ k. AtStage lives (Some after) m.low t.low t.asking (history_after k lives (name_at number t.names) (spelling answered.reply) u.database t.history) x) is
+          subst (λ k. AtStage lives (Some after) m.low t.low t.asking (history_after k lives (name_at number t.names) (spelling answered.reply) u t.history) x) is
           (stage_by (lane_of s.bytes) refl m e x (h.job m e x g));
       reports = h.reports;
       carried = carried_by n;
@@ -383,6 +389,7 @@ module _ (number : ℕ) (s : Sent) (link : Link) (lives : ℕ) (u : Onu) (manage
     carried_with : (n : Option Note) → answered.note ≡ n → CarriedWith n
     carried_with None is = carried_good None is
     carried_with (Some (note.Snapshot entities counter)) is = carried_good (Some (note.Snapshot entities counter)) is
+    carried_with (Some (note.Alarms rows)) is = carried_good (Some (note.Alarms rows)) is
 
     carries_good : Served (onu_received s.bytes u) number s link lives u manager t
     carries_good = subst (λ r. Served r number s link lives u manager t) (sym c.is) (carried_with answered.note refl)

@@ -1,18 +1,28 @@
 -- Packets that come to the manager.
-use Rattle.std.proofs.Common.{◌≡◌, ◌≢◌, ℕ, ◌+◌, ◌<◌, ◌≤◌, ◌^◌, Bool, true, false, cond, eqb, ◌&&◌, ◌||◌, List, [], ◌∷◌, ◌++◌, length, map, replicate, Option, Some, None, ◌⊎◌, inl, inr, is_some, refl, sym, ap, subst, ◌∙◌, arith, append-nil, nat_le, ◌==◌}
+use Rattle.std.proofs.Common.{◌≡◌, ℕ, ◌+◌, ◌<◌, ◌≤◌, ◌^◌, Bool, true, false, eqb, ◌||◌, List, [], ◌∷◌, ◌++◌, length, replicate, Option, Some, None, Result, Ok, Err, ◌⊎◌, inl, inr, is_some, refl, sym, ap, subst, ◌∙◌, arith, nat_le, ◌==◌}
 use Rattle.std.proofs.lemmas.Option.{same_Some}
 use Rattle.std.proofs.lemmas.Bool.{and_parts, false≢true, eqb-true}
 use Rattle.std.proofs.lemmas.Bool.Decides.{nat_tests}
-use Rattle.std.specs.List.{flat_map}
 use Rattle.omci_types.specs.declared.EntityId.{EntityId}
 use Rattle.omci_types.specs.declared.Frame.{Frame}
 use Rattle.omci_types.specs.declared.Priority.{Priority}
 use Rattle.omci_types.specs.declared.Priority.TheVariants.{Low, High}
 use Rattle.omci_types.specs.declared.TheConstants.Code.{SUCCESS}
-use Rattle.frame_spec.specs.Baseline.{spelling, packet_frame}
-use Rattle.message_spec.specs.declared.Request.TheVariants as request
+use Rattle.frame_spec.specs.Baseline.{packet_frame}
+use Rattle.message_spec.specs.declared.ContentsFault.{ContentsFault}
+use Rattle.message_spec.specs.declared.Message.{Message}
+use Rattle.message_spec.specs.declared.Message.TheVariants.{Asked, Answered, Told as ToldOf}
+use Rattle.message_spec.specs.declared.Notice.{Notice}
+use Rattle.message_spec.specs.declared.Notice.TheVariants as notices
+use Rattle.message_spec.specs.Reading.{message_of}
 use Rattle.message_spec.specs.declared.Response.{Response}
 use Rattle.message_spec.specs.declared.Response.TheVariants as response
+use Rattle.alarm_spec.specs.Alarms.{Alarm}
+use Rattle.alarm_spec.specs.declared.BadRow.{BadRow}
+use Rattle.alarm_spec.specs.declared.BadRow.TheVariants as bad
+use Rattle.alarm_spec.specs.declared.TakenAlarm.{TakenAlarm}
+use Rattle.alarm_spec.specs.declared.TakenAlarm.TheVariants as taken
+use Rattle.alarm_spec.specs.Table.{take_answer, after_take, begun, gathered, row_fault, after_row, finished}
 use Rattle.upload_spec.specs.declared.PieceFault.{PieceFault}
 use Rattle.upload_spec.specs.declared.PieceFault.TheVariants as fault
 use Rattle.upload_spec.specs.Pieces.{Copy, pieces, piece_at, without_makers}
@@ -27,22 +37,26 @@ use Rattle.manager_spec.specs.declared.Phase.{Phase}
 use Rattle.manager_spec.specs.declared.Phase.TheVariants as phase
 use Rattle.manager_spec.specs.declared.ResyncReason.{ResyncReason}
 use Rattle.manager_spec.specs.declared.ResyncReason.TheVariants as reason
+use Rattle.manager_spec.specs.declared.AuditReason.{AuditReason}
+use Rattle.manager_spec.specs.declared.AuditReason.TheVariants as audit
 use Rattle.manager_spec.specs.declared.Report.{Report}
 use Rattle.manager_spec.specs.declared.Report.TheVariants as report
-use Rattle.manager_spec.specs.Manager.{Stage, Probing, Asking, Gathering, Manager, Outcome, lane_in, with_lane, with_report, phase_left, leave_step, step_lost, sends_nothing, and_then}
+use Rattle.manager_spec.specs.Manager.{Stage, Probing, Asking, Gathering, AskingAlarms, GatheringRows, Manager, sends_nothing, lane_in, with_lane, with_report, phase_left, leave_step, and_then}
 use Rattle.manager_spec.specs.Copying.{followed_if, followed}
-use Rattle.manager_spec.specs.Resync.{with_job, resync_failed, resync_done, done_if_counted, all_gathered, probe_answered, gather_unless_all, gather_on, piece_by, piece_came, job_goes_on}
-use Rattle.manager_spec.specs.Steps.{response_of, code_of, first_value, with_taken, job_probed, probe_taken, followed_by, submission_taken, expected_counter, compared, counters_compared, checked_if, checked_by, check_taken, freed, upload_by, piece_by_reply, job_by, job_taken, taken_as, packet_dropped, take_if, frame_came, for_frame, after_packet}
+use Rattle.manager_spec.specs.Resync.{with_job, resync_failed, resync_done, done_if_counted, gather_unless_all, gather_on, piece_by, piece_came}
+use Rattle.manager_spec.specs.Audit.{with_table, audit_failed, audit_done, rows_unless_all, rows_on, row_by, audit_lost, notice_taken, alarm_as, alarm_came, notice_came}
+use Rattle.manager_spec.specs.Jobs.{job_goes_on}
+use Rattle.manager_spec.specs.Steps.{response_of, code_of, first_value, with_taken, job_probed, probe_taken, followed_by, expected_counter, compared, counters_compared, checked_if, checked_by, freed, upload_by, piece_by_reply, alarms_by, row_by_reply, job_by, taken_as, packet_dropped, not_taken, take_if, frame_came, for_frame, after_packet}
 use Rattle.unit_spec.specs.Onu.{Onu, Snapshot, response_frame}
-use Rattle.history_spec.specs.History.{Entry, TookReply, Remarked, Synced, WasCarried, LastReply, LastSnapshot}
-use Rattle.world_spec.specs.History.{Told, drawn_in}
+use Rattle.history_spec.specs.History.{Entry, TookReply, WasCarried, LastReply, LastSnapshot}
+use Rattle.world_spec.specs.History.{Told, drawn_in, answers_in}
 use Rattle.upload_laws.specs.Shaped.{IsWhole}
 use Rattle.resync_laws.proofs.Reading.{tci_read, upload_read, next_read}
-use Rattle.resync_laws.proofs.Gathering.{front_of, front_more, front_none, front_all, piece_found, zeros_empty, unknown_same}
-use Rattle.resync_laws.proofs.Invariants.{one_snapshot, is_job, Counted, Asks, Gathers, IsPiece, AsksNext, AtStage, JobOk, Held}
+use Rattle.resync_laws.proofs.Gathering.{front_of, front_more, front_none, front_all, zeros_empty, unknown_same}
+use Rattle.resync_laws.proofs.Invariants.{one_snapshot, is_job, Counted, Asks, Gathers, AsksNext, AtStage, JobOk, Held}
 use Rattle.resync_laws.proofs.Sending.{low_ended, high_ended}
-use Rattle.resync_laws.proofs.Telling.{is_synced, NoneSynced, none_more, Did, Goes, did_quiet, did_sync, synced_told, goes_nothing}
-use Rattle.resync_laws.proofs.Going.{IsFree, Ready, JobReady, ready_of, job_none, did_then}
+use Rattle.resync_laws.proofs.Telling.{is_synced, NoneSynced, none_more, Did, did_quiet, did_sync, did_audit, synced_told, audited_told, goes_nothing}
+use Rattle.resync_laws.proofs.Going.{IsFree, Ready, ready_of, did_then}
 
 -- ---- what leaves the lanes and the job alone
 
@@ -94,13 +108,21 @@ fails why m =
       reports = λ n. k.reports (none_more m.reports (report.ResyncFailed why) n refl);
     }
 
+pub fails_audit : (why : AuditReason) (m : Manager) → Fails m (audit_failed why m)
+fails_audit why m = record {
+  low = refl;
+  high = refl;
+  job = refl;
+  reports = λ n. none_more m.reports (report.AuditFailed why) n refl;
+}
+
 -- ---- the copy follows, the counters are compared
 
 mild_followed_if : (b : Bool) (c : Command) (m : Manager) → Mild m (followed_if b c.entity c.request m)
 mild_followed_if true c m = record { low = refl; high = refl; job = refl; reports = λ n. n }
 mild_followed_if false c m = mild_same m
 
-mild_followed : (c : Command) (r : Option Response) (m : Manager) → Mild m (followed_by c r m)
+pub mild_followed : (c : Command) (r : Option Response) (m : Manager) → Mild m (followed_by c r m)
 unfolding followed
 mild_followed c None m = mild_same m
 mild_followed c (Some r) m = mild_followed_if (code_of r == SUCCESS.0) c m
@@ -124,14 +146,15 @@ mild_checked_if : (b : Bool) (r : Response) (f : Frame) (m : Manager) → Mild m
 mild_checked_if true r f m = mild_counters (first_value r) m
 mild_checked_if false r f m = mild_took f m
 
-mild_checked : (r : Option Response) (f : Frame) (m : Manager) → Mild m (checked_by r f m)
+pub mild_checked : (r : Option Response) (f : Frame) (m : Manager) → Mild m (checked_by r f m)
 mild_checked None f m = mild_took f m
 mild_checked (Some r) f m = mild_checked_if (code_of r == SUCCESS.0) r f m
 
 -- ---- a reply more in the history
 
 abbrev pub took_told : Priority → Told → Told
-took_told lane t = record t { history = TookReply (drawn_in lane t) t.packet ∷ t.history }
+took_told lane t =
+    record (answers_in lane t) { history = TookReply (drawn_in lane t) t.packet ∷ t.history }
 
 counted_took : (command name : ℕ) (bytes r : List ℕ) (history : List Entry) → Counted command r history
     → Counted command r (TookReply name bytes ∷ history)
@@ -163,6 +186,8 @@ stage_took : (lives : ℕ) (unit : Option Onu) (low : Lane) (tlow asking name : 
     → AtStage lives unit low tlow asking (TookReply name bytes ∷ history) s
 unfolding gathers_took
 stage_took lives unit low tlow asking name bytes history (Probing high' low') h = tt
+stage_took lives unit low tlow asking name bytes history AskingAlarms h = tt
+stage_took lives unit low tlow asking name bytes history (GatheringRows expected next) h = tt
 stage_took lives unit low tlow asking name bytes history Asking h = record {
   proved = h.proved;
   waiting = h.waiting;
@@ -206,6 +231,47 @@ held_synced copy link unit low high u h last = record {
   right = (last, h.right);
 }
 
+held_audited : (m : Manager) (link : Link) (unit : Option Onu) (low high : Lane) (u : Told)
+    → Held link.packets unit low high u → Held link.packets unit low high (audited_told m u)
+held_audited m link unit low high u h = record {
+  sent = h.sent;
+  apart = h.apart;
+  lanes = h.lanes;
+  carried = h.carried;
+  whole = h.whole;
+  right = h.right;
+}
+
+-- ---- the low lane's reply to a request of the audit
+
+module _ (m : Manager) (link : Link) (lives : ℕ) (unit : Option Onu) (t : Told) (h : Held link.packets unit m.low m.high (took_told Low t)) (quiet : m.reports ≡ []) where
+  audit_fails_on : (why : AuditReason) → Did (and_then (with_taken Low (audit_failed why m)) job_goes_on) link lives unit t
+  audit_fails_on why =
+      did_then (with_taken Low (audit_failed why m)) link lives unit t (took_told Low t) refl refl
+      (none_more m.reports (report.AuditFailed why) (subst NoneSynced (sym quiet) tt) refl) refl h
+      (λ s e. absurd (cc))
+
+  rows_by : (all : Bool) (expected next : ℕ) → Did (and_then (with_taken Low (rows_unless_all all expected next m)) job_goes_on) link lives unit t
+  unfolding job_goes_on
+  rows_by true expected next =
+      did_audit (and_then (with_taken Low (audit_done m)) job_goes_on) (length (finished m.table).rows) link lives unit t (took_told Low t) refl
+      (ap (λ (rs : List Report). rs ++ report.Audited (length (finished m.table).rows) ∷ []) quiet)
+      (record { held = held_audited (audit_done m) link unit m.low m.high (took_told Low t) h; job = λ s e. absurd (cc) })
+  rows_by false expected next =
+      did_then (with_taken Low (with_job (Some (GatheringRows expected next)) m)) link lives unit t (took_told Low t) refl refl
+      (subst NoneSynced (sym quiet) tt) refl h
+      (λ s f. subst (Ready lives unit m.low t.low t.asking (took_told Low t).history) (same_Some (GatheringRows expected next) s f) tt)
+
+  rows_all : (expected next : ℕ) → Did (and_then (with_taken Low (rows_on expected next m)) job_goes_on) link lives unit t
+  unfolding rows_on
+  rows_all expected next = rows_by (nat_le expected next) expected next
+
+module _ (m : Manager) (link : Link) (lives : ℕ) (unit : Option Onu) (t : Told) (h : Held link.packets unit m.low m.high (took_told Low t)) (quiet : m.reports ≡ []) where
+  row_on : (o : Option BadRow) (expected next : ℕ) (row : List ℕ) → Did (and_then (with_taken Low (row_by o expected next row m)) job_goes_on) link lives unit t
+  row_on None expected next row = rows_all (with_table (after_row row m.table) m) link lives unit t h quiet expected (next + 1)
+  row_on (Some bad.Empty) expected next row = audit_fails_on m link lives unit t h quiet audit.Empty
+  row_on (Some (bad.Repeated one)) expected next row = audit_fails_on m link lives unit t h quiet (audit.Repeated one)
+
 -- ---- the low lane's reply to a request of the job
 
 module _ (m : Manager) (link : Link) (lives : ℕ) (unit : Option Onu) (t : Told) (h : Held link.packets unit m.low m.high (took_told Low t)) (free : IsFree m.low) (quiet : m.reports ≡ []) where
@@ -215,7 +281,7 @@ module _ (m : Manager) (link : Link) (lives : ℕ) (unit : Option Onu) (t : Told
   fails_on : (why : ResyncReason) → Did (and_then (with_taken Low (resync_failed why m)) job_goes_on) link lives unit t
   fails_on why =
       let k = fails why m in
-      did_then (with_taken Low (resync_failed why m)) link lives unit t (took_told Low t) refl
+      did_then (with_taken Low (resync_failed why m)) link lives unit t (took_told Low t) refl refl
       (k.reports none_yet) refl
       (subst (λ l. Held link.packets unit l (resync_failed why m).high (took_told Low t)) (sym k.low)
       (subst (λ l. Held link.packets unit m.low l (took_told Low t)) (sym k.high) h))
@@ -242,7 +308,7 @@ module _ (m : Manager) (link : Link) (lives : ℕ) (unit : Option Onu) (t : Told
         let enough : length (pieces database) ≤ next = grind (arith, nat_tests) in
         ends_on copy (front ∙ front_all next database whole enough) (is_some (copied_counter copy))
     gathers_by expected next copy count front false e =
-        did_then (with_taken Low (with_job (Some (Gathering expected next copy)) m)) link lives unit t (took_told Low t) refl none_yet refl h
+        did_then (with_taken Low (with_job (Some (Gathering expected next copy)) m)) link lives unit t (took_told Low t) refl refl none_yet refl h
         (λ s f. subst (Ready lives unit m.low t.low t.asking (took_told Low t).history) (same_Some (Gathering expected next copy) s f) (inr (
           free,
           record {
@@ -294,12 +360,95 @@ IsHeard low lives t bytes =
     → priority_of (packet_tci bytes) ≡ Low → is_probe w.command.purpose ≡ false
     → IsOwn lives t bytes
 
-or_true : (b : Bool) → (b || true) ≡ true
+pub or_true : (b : Bool) → (b || true) ≡ true
 or_true true = refl
 or_true false = refl
 
-not_job : {A : Type 0} (p : Purpose) → p ≡ purpose.Job → is_job p ≡ false → A
+pub not_job : {A : Type 0} (p : Purpose) → p ≡ purpose.Job → is_job p ≡ false → A
 not_job p e f = absurd (false≢true (sym f ∙ ap is_job e))
+
+-- ---- what answers nothing: a notice, or it is dropped
+
+held_noticed : (notices : List Alarm) (link : Link) (unit : Option Onu) (low high : Lane)
+    (t : Told) → Held link.packets unit low high t
+    → Held link.packets unit low high (record t { notices = notices })
+held_noticed notices link unit low high t h = record {
+  sent = h.sent;
+  apart = h.apart;
+  lanes = h.lanes;
+  carried = h.carried;
+  whole = h.whole;
+  right = h.right;
+}
+
+module _ (m : Manager) (link : Link) (lives : ℕ) (unit : Option Onu) (t : Told) (h : Held link.packets unit m.low m.high t) (j : JobOk lives unit m.low m.job t.low t.asking t.history) (quiet : m.reports ≡ []) where
+  unsynced : NoneSynced m.reports
+  unsynced = subst NoneSynced (sym quiet) tt
+
+  mild_held : (b : Manager) → Mild m b → Held link.packets unit b.low b.high t
+  mild_held b k =
+      subst (λ l. Held link.packets unit l b.high t) (sym k.low)
+      (subst (λ l. Held link.packets unit m.low l t) (sym k.high) h)
+
+  mild_job : (b : Manager) → Mild m b → JobOk lives unit b.low b.job t.low t.asking t.history
+  mild_job b k =
+      subst (λ l. JobOk lives unit l b.job t.low t.asking t.history) (sym k.low)
+      (subst (λ o. JobOk lives unit m.low o t.low t.asking t.history) (sym k.job) j)
+
+  mild_on : (b : Manager) → Mild m b → Did (sends_nothing b) link lives unit t
+  mild_on b k =
+      did_quiet (sends_nothing b) link lives unit t t refl (k.reports unsynced)
+      (goes_nothing b link lives unit t (mild_held b k) (mild_job b k))
+
+  -- an audit that runs fails, and no other job
+  failed_on : (why : AuditReason) (b : Manager) → Mild m b → Did (sends_nothing (audit_failed why b)) link lives unit t
+  failed_on why b k =
+      did_quiet (sends_nothing (audit_failed why b)) link lives unit t t refl
+      (none_more b.reports (report.AuditFailed why) (k.reports unsynced) refl)
+      (goes_nothing (audit_failed why b) link lives unit t (mild_held b k) (λ s e. absurd (cc)))
+
+  audit_lost_on : (job : Option Stage) (why : AuditReason) (b : Manager) → Mild m b → Did (sends_nothing (audit_lost job why b)) link lives unit t
+  audit_lost_on None why b k = mild_on b k
+  audit_lost_on (Some (Probing high' low')) why b k = mild_on b k
+  audit_lost_on (Some Asking) why b k = mild_on b k
+  audit_lost_on (Some (Gathering expected next copy)) why b k = mild_on b k
+  audit_lost_on (Some AskingAlarms) why b k = failed_on why b k
+  audit_lost_on (Some (GatheringRows expected next)) why b k = failed_on why b k
+
+  taken_on : (one : EntityId) (bitmap : List ℕ) (b : Manager) → Mild m b → Did (notice_taken one bitmap b) link lives unit t
+  taken_on one bitmap b k =
+      let u : Told = record t { notices = t.notices ++ (one, bitmap) ∷ [] } in
+      did_quiet (notice_taken one bitmap b) link lives unit t u refl (k.reports unsynced)
+      (record { held = held_noticed u.notices link unit b.low b.high t (mild_held b k); job = mild_job b k })
+
+  more_mild : (r : Report) (b : Manager) → Mild m b → is_synced r ≡ false → Mild m (with_report r b)
+  more_mild r b k e = mild_then m b (with_report r b) k (mild_report r b e)
+
+  alarm_on : (a : TakenAlarm) (one : EntityId) (bitmap : List ℕ) (number : ℕ) (b : Manager) → Mild m b → Did (alarm_as a one bitmap number b) link lives unit t
+  alarm_on taken.Unaudited one bitmap number b k = mild_on _ (more_mild (report.AlarmUnaudited number) b k refl)
+  alarm_on taken.Repeat one bitmap number b k = mild_on _ (more_mild (report.AlarmRepeat number) b k refl)
+  alarm_on (taken.Gap want have) one bitmap number b k = audit_lost_on b.job _ _ (more_mild (report.AlarmGap want have) b k refl)
+  alarm_on taken.Overflow one bitmap number b k = audit_lost_on b.job _ _ (more_mild (report.AlarmOverflow number) b k refl)
+  alarm_on taken.Taken one bitmap number b k = taken_on one bitmap _ (more_mild (report.AlarmTaken number) b k refl)
+
+  alarm_came_on : (one : EntityId) (bitmap : List ℕ) (number : ℕ) → Did (alarm_came one bitmap number m) link lives unit t
+  unfolding alarm_came
+  alarm_came_on one bitmap number =
+      alarm_on (take_answer number m.table) one bitmap number (with_table (after_take one bitmap number m.table) m)
+      (record { low = refl; high = refl; job = refl; reports = λ n. n })
+
+  notice_on : (one : EntityId) (notice : Notice) (f : Frame) → Did (notice_came one notice f m) link lives unit t
+  notice_on one (notices.Alarm bitmap number) f = alarm_came_on one bitmap number
+  notice_on one (notices.Change mask values) f = mild_on _ (mild_report (report.Change f) m refl)
+
+  drops_on : Did (packet_dropped m) link lives unit t
+  drops_on = mild_on _ (mild_report report.Dropped m refl)
+
+  not_taken_on : (r : Result Message ContentsFault) (f : Frame) → Did (not_taken r f m) link lives unit t
+  not_taken_on (Ok (ToldOf tci entity notice)) f = notice_on entity notice f
+  not_taken_on (Ok (Asked tci entity r)) f = drops_on
+  not_taken_on (Ok (Answered tci entity r)) f = drops_on
+  not_taken_on (Err fault) f = drops_on
 
 -- ---- a reply of the low lane
 
@@ -320,18 +469,22 @@ module _ (bytes : List ℕ) (f : Frame) (read : packet_frame bytes ≡ Some f) (
     -- a caller's command leaves a job that doesn't wait for the lane
     others_ready : is_job w.command.purpose ≡ false → (s : Stage) → m.job ≡ Some s → (history : List Entry) → Ready lives unit low_free.low t.low t.asking history s
     others_ready callers (Probing high' low') e history = tt
+    others_ready callers AskingAlarms e history = tt
+    others_ready callers (GatheringRows expected next) e history = tt
     others_ready callers Asking e history = not_job w.command.purpose (asking_purpose (j Asking e)) callers
     others_ready callers (Gathering expected next copy) e history = let at = j (Gathering expected next copy) e in not_job w.command.purpose (next_purpose at.0.database next at.1) callers
 
     probed_low : is_job w.command.purpose ≡ false → (job : Option Stage) → m.job ≡ job → (s : Stage) → job_probed Low job ≡ Some s → Ready lives unit low_free.low t.low t.asking t.history s
     probed_low callers None e s g = absurd (cc)
     probed_low callers (Some (Probing high' low')) e s g = subst (Ready lives unit low_free.low t.low t.asking t.history) (same_Some (Probing high' false) s g) tt
+    probed_low callers (Some AskingAlarms) e s g = subst (Ready lives unit low_free.low t.low t.asking t.history) (same_Some AskingAlarms s g) tt
+    probed_low callers (Some (GatheringRows expected next)) e s g = subst (Ready lives unit low_free.low t.low t.asking t.history) (same_Some (GatheringRows expected next) s g) tt
     probed_low callers (Some Asking) e s g = not_job w.command.purpose (asking_purpose (j Asking e)) callers
     probed_low callers (Some (Gathering expected next copy)) e s g = let at = j (Gathering expected next copy) e in not_job w.command.purpose (next_purpose at.0.database next at.1) callers
 
     mild_low : (b : Manager) → Mild low_free b → is_job w.command.purpose ≡ false → Did (and_then (with_taken Low b) job_goes_on) link lives unit t
     mild_low b k callers =
-        did_then (with_taken Low b) link lives unit t (took_told Low t) refl
+        did_then (with_taken Low b) link lives unit t (took_told Low t) refl refl
         (k.reports (subst NoneSynced (sym quiet) tt)) refl
         (subst (λ l. Held link.packets unit l b.high (took_told Low t)) (sym k.low)
         (subst (λ l. Held link.packets unit low_free.low l (took_told Low t)) (sym k.high)
@@ -341,13 +494,21 @@ module _ (bytes : List ℕ) (f : Frame) (read : packet_frame bytes ≡ Some f) (
 
     freed_on : (s : Option Stage) → m.job ≡ s → ((x : Stage) → s ≡ Some x → Ready lives unit low_free.low t.low t.asking (took_told Low t).history x) → Did (and_then (with_taken Low (freed f low_free)) job_goes_on) link lives unit t
     freed_on s e ready =
-        did_then (with_taken Low (freed f low_free)) link lives unit t (took_told Low t) refl
+        did_then (with_taken Low (freed f low_free)) link lives unit t (took_told Low t) refl refl
         (none_more m.reports (report.Freed f.tci) (subst NoneSynced (sym quiet) tt) refl) refl
         (held_took Low link unit low_free.low low_free.high t low_held)
         (λ x g. ready x (sym e ∙ g))
 
     low_is_free : m.low.proved ≡ true → IsFree low_free.low
     low_is_free proved = record { proved = ap (λ b. is_probe w.command.purpose || b) proved ∙ or_true (is_probe w.command.purpose); none = refl }
+
+    alarms_on : (r : Option Response) → m.job ≡ Some AskingAlarms → Did (and_then (with_taken Low (alarms_by r f low_free)) job_goes_on) link lives unit t
+    alarms_on (Some (response.Alarms count)) e = rows_all (with_table (begun m.table) low_free) link lives unit t (held_took Low link unit low_free.low low_free.high t low_held) quiet count 0
+    alarms_on _ e = freed_on (Some AskingAlarms) e (λ x g. subst (Ready lives unit low_free.low t.low t.asking (took_told Low t).history) (same_Some AskingAlarms x g) tt)
+
+    row_reply_on : (r : Option Response) (expected next : ℕ) → m.job ≡ Some (GatheringRows expected next) → Did (and_then (with_taken Low (row_by_reply r expected next f low_free)) job_goes_on) link lives unit t
+    row_reply_on (Some (response.AlarmsNext row)) expected next e = row_on low_free link lives unit t (held_took Low link unit low_free.low low_free.high t low_held) quiet (row_fault row (gathered m.table)) expected next row
+    row_reply_on _ expected next e = freed_on (Some (GatheringRows expected next)) e (λ x g. subst (Ready lives unit low_free.low t.low t.asking (took_told Low t).history) (same_Some (GatheringRows expected next) x g) tt)
 
     job_on : IsOwn lives t bytes → (job : Option Stage) → m.job ≡ job → Did (and_then (with_taken Low (job_by job (response_of f) f low_free)) job_goes_on) link lives unit t
     job_on own None e = freed_on None e (λ x g. absurd (cc))
@@ -369,10 +530,12 @@ module _ (bytes : List ℕ) (f : Frame) (read : packet_frame bytes ≡ Some f) (
         subst (λ r. Did (and_then (with_taken Low (piece_by_reply r expected next copy f low_free)) job_goes_on) link lives unit t) (sym says)
         (came_on low_free link lives unit t (held_took Low link unit low_free.low low_free.high t low_held) (low_is_free at.1.proved) quiet
         g.database g.whole g.few g.last g.put_by expected next copy p.piece g.count g.front p.from)
+    job_on own (Some AskingAlarms) e = alarms_on (response_of f) e
+    job_on own (Some (GatheringRows expected next)) e = row_reply_on (response_of f) expected next e
 
     taken_low : (is_probe w.command.purpose ≡ false → IsOwn lives t bytes) → (p : Purpose) → w.command.purpose ≡ p → Did (and_then (taken_as p Low w.command f low_free) job_goes_on) link lives unit t
     taken_low own purpose.Probe e =
-        did_then (probe_taken Low low_free) link lives unit t t refl
+        did_then (probe_taken Low low_free) link lives unit t t refl refl
         (none_more m.reports (report.Proved Low) (subst NoneSynced (sym quiet) tt) refl) refl low_held
         (λ s g. probed_low (ap is_job e) m.job refl s g)
     taken_low own purpose.Submission e =
@@ -393,12 +556,14 @@ module _ (bytes : List ℕ) (f : Frame) (read : packet_frame bytes ≡ Some f) (
     probed_high : (job : Option Stage) → m.job ≡ job → (s : Stage) → job_probed High job ≡ Some s → Ready lives unit m.low t.low t.asking t.history s
     probed_high None e s g = absurd (cc)
     probed_high (Some (Probing high' low')) e s g = subst (Ready lives unit m.low t.low t.asking t.history) (same_Some (Probing false low') s g) tt
+    probed_high (Some AskingAlarms) e s g = subst (Ready lives unit m.low t.low t.asking t.history) (same_Some AskingAlarms s g) tt
+    probed_high (Some (GatheringRows expected next)) e s g = subst (Ready lives unit m.low t.low t.asking t.history) (same_Some (GatheringRows expected next) s g) tt
     probed_high (Some Asking) e s g = subst (Ready lives unit m.low t.low t.asking t.history) (same_Some Asking s g) (j Asking e)
     probed_high (Some (Gathering expected next copy)) e s g = subst (Ready lives unit m.low t.low t.asking t.history) (same_Some (Gathering expected next copy) s g) (inl (j (Gathering expected next copy) e))
 
     mild_high : (b : Manager) → Mild high_free b → Did (and_then (with_taken High b) job_goes_on) link lives unit t
     mild_high b k =
-        did_then (with_taken High b) link lives unit t (took_told High t) refl
+        did_then (with_taken High b) link lives unit t (took_told High t) refl refl
         (k.reports (subst NoneSynced (sym quiet) tt)) refl
         (subst (λ l. Held link.packets unit l b.high (took_told High t)) (sym k.low)
         (subst (λ l. Held link.packets unit high_free.low l (took_told High t)) (sym k.high)
@@ -409,7 +574,7 @@ module _ (bytes : List ℕ) (f : Frame) (read : packet_frame bytes ≡ Some f) (
 
     taken_high : (p : Purpose) → w.command.purpose ≡ p → Did (and_then (taken_as p High w.command f high_free) job_goes_on) link lives unit t
     taken_high purpose.Probe e =
-        did_then (probe_taken High high_free) link lives unit t t refl
+        did_then (probe_taken High high_free) link lives unit t t refl refl
         (none_more m.reports (report.Proved High) (subst NoneSynced (sym quiet) tt) refl) refl high_held
         (λ s g. probed_high m.job refl s g)
     taken_high purpose.Submission e =
@@ -420,11 +585,8 @@ module _ (bytes : List ℕ) (f : Frame) (read : packet_frame bytes ≡ Some f) (
 
   -- ---- or nothing is taken
 
-  dropped_on : Did (packet_dropped m) link lives unit t
-  dropped_on =
-      did_quiet (packet_dropped m) link lives unit t t refl
-      (none_more m.reports report.Dropped (subst NoneSynced (sym quiet) tt) refl)
-      (goes_nothing (with_report report.Dropped m) link lives unit t h j)
+  dropped_on : Did (not_taken (message_of f) f m) link lives unit t
+  dropped_on = not_taken_on m link lives unit t h j quiet (message_of f) f
 
   taken_in : (lane : Priority) (w : Waiting) → (lane_in lane m).outstanding ≡ Some w → (lane ≡ Low → is_probe w.command.purpose ≡ false → IsOwn lives t bytes)
       → Did (and_then (taken_as w.command.purpose lane w.command f (with_lane lane (end_command w (lane_in lane m)) m)) job_goes_on) link lives unit t
@@ -469,10 +631,7 @@ by_frame : (o : Option Frame) (bytes : List ℕ) (m : Manager) (link : Link) (li
     (unit : Option Onu) (t : Told) → packet_frame bytes ≡ o → Held link.packets unit m.low m.high t
     → JobOk lives unit m.low m.job t.low t.asking t.history → m.reports ≡ []
     → IsHeard m.low lives t bytes → Did (for_frame o m) link lives unit t
-by_frame None bytes m link lives unit t read h j quiet heard =
-    did_quiet (packet_dropped m) link lives unit t t refl
-    (none_more m.reports report.Dropped (subst NoneSynced (sym quiet) tt) refl)
-    (goes_nothing (with_report report.Dropped m) link lives unit t h j)
+by_frame None bytes m link lives unit t read h j quiet heard = drops_on m link lives unit t h j quiet
 by_frame (Some f) bytes m link lives unit t read h j quiet heard =
     frame_on bytes f read m link lives unit t h j quiet heard
 

@@ -1,24 +1,24 @@
 -- What is told of a step of the manager: of the replies that it took, of its reports, and of what it
 -- sent.
-use Rattle.std.proofs.Common.{◌≡◌, ℕ, ◌+◌, ◌<◌, ◌≤◌, Bool, true, false, cond, List, [], ◌∷◌, ◌++◌, length, map, Option, Some, None, refl, sym, ap, subst, ◌∙◌, append_assoc, append-nil}
-use Rattle.std.proofs.lemmas.Option.{same_Some}
+use Rattle.std.proofs.Common.{◌≡◌, ℕ, Bool, true, false, cond, List, [], ◌∷◌, ◌++◌, map, Option, Some, None, refl, sym, ap, subst, ◌∙◌, append_assoc}
 use Rattle.std.specs.List.{flat_map}
 use Rattle.omci_types.specs.declared.Priority.{Priority}
 use Rattle.omci_types.specs.declared.Priority.TheVariants.{Low, High}
 use Rattle.upload_spec.specs.Pieces.{Copy}
-use Rattle.link_spec.specs.Link.{Sent, Link}
+use Rattle.link_spec.specs.Link.{Link}
 use Rattle.lane_spec.specs.Command.{Command}
-use Rattle.lane_spec.specs.Lane.{Lane, with_command}
+use Rattle.lane_spec.specs.Lane.{with_command}
 use Rattle.manager_spec.specs.declared.Report.{Report}
 use Rattle.manager_spec.specs.declared.Report.TheVariants as report
-use Rattle.manager_spec.specs.Manager.{Stage, Manager, Outcome, Sending, sends_nothing, and_then, command_sent}
+use Rattle.manager_spec.specs.Manager.{Manager, Outcome, Sending, sends_nothing, and_then, command_sent}
 use Rattle.unit_spec.specs.Onu.{Onu}
-use Rattle.history_spec.specs.History.{Entry, TookReply, Remarked, Synced, LastSnapshot}
-use Rattle.world_spec.specs.Happenings.{Happening, ReplyTaken, on_link, link_read}
-use Rattle.world_spec.specs.Ends.{sends, copy_told, reported}
-use Rattle.world_spec.specs.History.{Told, drawn_in, tell, tell_all}
+use Rattle.alarm_spec.specs.Alarms.{Alarm}
+use Rattle.history_spec.specs.History.{Remarked, Synced, Audited}
+use Rattle.world_spec.specs.Happenings.{Happening, ReplyTaken, NoticeTaken, on_link, link_read}
+use Rattle.world_spec.specs.Ends.{sends, copy_told, result_told, report_told}
+use Rattle.world_spec.specs.History.{Told, tell, tell_all}
 use Rattle.resync_laws.proofs.Reading.{is_plain}
-use Rattle.resync_laws.proofs.Invariants.{AtStage, JobOk, Held, Good, good_of, is_job}
+use Rattle.resync_laws.proofs.Invariants.{JobOk, Held, Good, good_of, is_job}
 use Rattle.resync_laws.proofs.Sending.{held_low, held_high}
 
 -- ---- one after the other
@@ -43,18 +43,11 @@ sends_append (x ∷ a) b =
 -- ---- reports
 
 abbrev pub is_synced : Report → Bool
-is_synced (report.Took reply) = false
-is_synced (report.Proved lane) = false
-is_synced (report.Freed tci) = false
-is_synced (report.GaveUp tci) = false
 is_synced (report.Synced entities counter) = true
-is_synced report.PhaseIn = false
-is_synced report.PhaseOut = false
-is_synced (report.ResyncFailed why) = false
-is_synced (report.Checked given expected) = false
-is_synced report.Dropped = false
+is_synced (report.Audited rows) = true
+is_synced _ = false
 
--- none of them is that of a resynchronisation that has ended well
+-- none of them is that of a resynchronisation or an audit that has ended well
 abbrev pub NoneSynced : List Report → Type 0
 NoneSynced [] = Unit {0}
 NoneSynced (r ∷ rest) = (is_synced r ≡ false) × NoneSynced rest
@@ -64,57 +57,55 @@ pub none_more : (rs : List Report) (r : Report) → NoneSynced rs → is_synced 
 none_more [] r h e = (e, tt)
 none_more (x ∷ rs) r h e = (h.0, none_more rs r h.1 e)
 
-quiet_one : (r : Report) (copy : Option Copy) → is_synced r ≡ false → copy_told r copy ≡ []
-quiet_one (report.Took reply) copy e = refl
-quiet_one (report.Proved lane) copy e = refl
-quiet_one (report.Freed tci) copy e = refl
-quiet_one (report.GaveUp tci) copy e = refl
-quiet_one (report.Synced entities counter) copy e = absurd (cc)
-quiet_one report.PhaseIn copy e = refl
-quiet_one report.PhaseOut copy e = refl
-quiet_one (report.ResyncFailed why) copy e = refl
-quiet_one (report.Checked given expected) copy e = refl
-quiet_one report.Dropped copy e = refl
+quiet_one : (r : Report) (m : Manager) → is_synced r ≡ false → result_told r m ≡ []
+quiet_one (report.Synced entities counter) m e = absurd (cc)
+quiet_one (report.Audited rows) m e = absurd (cc)
+quiet_one _ m e = refl
 
-quiet_told : (rs : List Report) (copy : Option Copy) (t : Told) → NoneSynced rs
-    → tell_all (flat_map (reported copy) rs) t ≡ t
-quiet_told [] copy t h = refl
-quiet_told (r ∷ rs) copy t h =
-    ap (λ l. tell_all (l ++ flat_map (reported copy) rs) t) (quiet_one r copy h.0)
-    ∙ quiet_told rs copy t h.1
+pub quiet_told : (rs : List Report) (m : Manager) (t : Told) → NoneSynced rs
+    → tell_all (flat_map (report_told m) rs) t ≡ t
+quiet_told [] m t h = refl
+quiet_told (r ∷ rs) m t h =
+    ap (λ l. tell_all (l ++ flat_map (report_told m) rs) t) (quiet_one r m h.0)
+    ∙ quiet_told rs m t h.1
 
-link_one : (r : Report) (copy : Option Copy) (l : Link) → link_read (copy_told r copy) l ≡ l
-link_one (report.Took reply) copy l = refl
-link_one (report.Proved lane) copy l = refl
-link_one (report.Freed tci) copy l = refl
-link_one (report.GaveUp tci) copy l = refl
-link_one (report.Synced entities counter) None l = refl
-link_one (report.Synced entities counter) (Some copy) l = refl
-link_one report.PhaseIn copy l = refl
-link_one report.PhaseOut copy l = refl
-link_one (report.ResyncFailed why) copy l = refl
-link_one (report.Checked given expected) copy l = refl
-link_one report.Dropped copy l = refl
+link_copy : (copy : Option Copy) (l : Link) → link_read (copy_told copy) l ≡ l
+link_copy None l = refl
+link_copy (Some copy) l = refl
 
-link_told : (rs : List Report) (copy : Option Copy) (l : Link)
-    → link_read (flat_map (reported copy) rs) l ≡ l
-link_told [] copy l = refl
-link_told (r ∷ rs) copy l =
-    link_append (copy_told r copy) (flat_map (reported copy) rs) l
-    ∙ ap (link_read (flat_map (reported copy) rs)) (link_one r copy l)
-    ∙ link_told rs copy l
+link_one : (r : Report) (m : Manager) (l : Link) → link_read (result_told r m) l ≡ l
+link_one (report.Synced entities counter) m l = link_copy m.copy l
+link_one (report.Audited rows) m l = refl
+link_one _ m l = refl
+
+link_told : (rs : List Report) (m : Manager) (l : Link)
+    → link_read (flat_map (report_told m) rs) l ≡ l
+link_told [] m l = refl
+link_told (r ∷ rs) m l =
+    link_append (result_told r m) (flat_map (report_told m) rs) l
+    ∙ ap (link_read (flat_map (report_told m) rs)) (link_one r m l)
+    ∙ link_told rs m l
 
 link_taken : (lanes : List Priority) (l : Link) → link_read (map ReplyTaken lanes) l ≡ l
 link_taken [] l = refl
 link_taken (x ∷ lanes) l = link_taken lanes l
 
+link_noticed : (notices : List Alarm) (l : Link) → link_read (map NoticeTaken notices) l ≡ l
+link_noticed [] l = refl
+link_noticed (x ∷ notices) l = link_noticed notices l
+
 -- ---- what a step comes to
+
+-- the replies and the notices that are taken in it
+abbrev pub taken_deeds : Outcome → List Happening
+taken_deeds o = map ReplyTaken o.taken ++ map NoticeTaken o.noticed
 
 -- all that happens in it
 abbrev pub deeds_of : Outcome → List Happening
 deeds_of o =
     map ReplyTaken o.taken
-    ++ flat_map (reported o.manager.copy) o.manager.reports
+    ++ map NoticeTaken o.noticed
+    ++ flat_map (report_told o.manager) o.manager.reports
     ++ flat_map sends o.sendings
 
 -- all is well after it, and its reports are taken out
@@ -130,30 +121,32 @@ pub record Goes (o : Outcome) (link : Link) (lives : ℕ) (unit : Option Onu) (t
   pub job : JobOk lives unit o.manager.low o.manager.job (tell_all (flat_map sends o.sendings) t).low
       (tell_all (flat_map sends o.sendings) t).asking (tell_all (flat_map sends o.sendings) t).history
 
-did_link : (o : Outcome) (link : Link)
+pub did_link : (o : Outcome) (link : Link)
     → link_read (deeds_of o) link ≡ link_read (flat_map sends o.sendings) link
 did_link o link =
     let taken = map ReplyTaken o.taken in
-    let told = flat_map (reported o.manager.copy) o.manager.reports in
+    let noticed = map NoticeTaken o.noticed in
+    let told = flat_map (report_told o.manager) o.manager.reports in
     let sent = flat_map sends o.sendings in
-    link_append (taken ++ told) sent link
-    ∙ ap (link_read sent) (link_append taken told link
-    ∙ ap (link_read told) (link_taken o.taken link)
-    ∙ link_told o.manager.reports o.manager.copy link)
+    link_append (taken ++ noticed ++ told) sent link
+    ∙ ap (link_read sent) (link_append (taken ++ noticed) told link
+    ∙ ap (link_read told) (link_append taken noticed link
+    ∙ ap (link_read noticed) (link_taken o.taken link) ∙ link_noticed o.noticed link)
+    ∙ link_told o.manager.reports o.manager link)
 
-did_told : (o : Outcome) (t u v : Told) → tell_all (map ReplyTaken o.taken) t ≡ u
-    → tell_all (flat_map (reported o.manager.copy) o.manager.reports) u ≡ v
+pub did_told : (o : Outcome) (t u v : Told) → tell_all (taken_deeds o) t ≡ u
+    → tell_all (flat_map (report_told o.manager) o.manager.reports) u ≡ v
     → tell_all (deeds_of o) t ≡ tell_all (flat_map sends o.sendings) v
 did_told o t u v e f =
-    let taken = map ReplyTaken o.taken in
-    let told = flat_map (reported o.manager.copy) o.manager.reports in
+    let taken = taken_deeds o in
+    let told = flat_map (report_told o.manager) o.manager.reports in
     let sent = flat_map sends o.sendings in
     tell_append (taken ++ told) sent t
     ∙ ap (tell_all sent) (tell_append taken told t ∙ ap (tell_all told) e ∙ f)
 
 did_after : (o : Outcome) (link : Link) (lives : ℕ) (unit : Option Onu) (t u v : Told)
-    → tell_all (map ReplyTaken o.taken) t ≡ u
-    → tell_all (flat_map (reported o.manager.copy) o.manager.reports) u ≡ v
+    → tell_all (taken_deeds o) t ≡ u
+    → tell_all (flat_map (report_told o.manager) o.manager.reports) u ≡ v
     → Goes o link lives unit v → Did o link lives unit t
 did_after o link lives unit t u v e f g =
     subst (λ l. Good l.packets lives unit (Some (record o.manager { reports = [] })) (tell_all (deeds_of o) t))
@@ -164,10 +157,10 @@ did_after o link lives unit t u v e f g =
 
 -- a step that ends no resynchronisation well
 pub did_quiet : (o : Outcome) (link : Link) (lives : ℕ) (unit : Option Onu) (t u : Told)
-    → tell_all (map ReplyTaken o.taken) t ≡ u → NoneSynced o.manager.reports
+    → tell_all (taken_deeds o) t ≡ u → NoneSynced o.manager.reports
     → Goes o link lives unit u → Did o link lives unit t
 did_quiet o link lives unit t u e none g =
-    did_after o link lives unit t u u e (quiet_told o.manager.reports o.manager.copy u none) g
+    did_after o link lives unit t u u e (quiet_told o.manager.reports o.manager u none) g
 
 -- one that does
 abbrev pub synced_told : Copy → Told → Told
@@ -175,13 +168,25 @@ synced_told copy u = record u { history = Remarked (Synced u.asking copy) ∷ u.
 
 pub did_sync : (o : Outcome) (copy : Copy) (entities counter : ℕ) (link : Link) (lives : ℕ)
     (unit : Option Onu) (t u : Told)
-    → tell_all (map ReplyTaken o.taken) t ≡ u → o.manager.copy ≡ Some copy
+    → tell_all (taken_deeds o) t ≡ u → o.manager.copy ≡ Some copy
     → o.manager.reports ≡ report.Synced entities counter ∷ report.PhaseIn ∷ []
     → Goes o link lives unit (synced_told copy u) → Did o link lives unit t
 did_sync o copy entities counter link lives unit t u e c r g =
     did_after o link lives unit t u (synced_told copy u) e
-    (ap (λ rs. tell_all (flat_map (reported o.manager.copy) rs) u) r
-    ∙ ap (λ x. tell_all (flat_map (reported x) (report.Synced entities counter ∷ report.PhaseIn ∷ [])) u) c) g
+    (ap (λ rs. tell_all (flat_map (report_told o.manager) rs) u) r
+    ∙ ap (λ x. tell_all (copy_told x ++ report_told o.manager report.PhaseIn) u) c) g
+
+-- one that ends an audit well
+abbrev pub audited_told : Manager → Told → Told
+audited_told m u =
+    record u { history = Remarked (Audited u.asking m.table.rows u.notices) ∷ u.history }
+
+pub did_audit : (o : Outcome) (rows : ℕ) (link : Link) (lives : ℕ) (unit : Option Onu) (t u : Told)
+    → tell_all (taken_deeds o) t ≡ u → o.manager.reports ≡ report.Audited rows ∷ []
+    → Goes o link lives unit (audited_told o.manager u) → Did o link lives unit t
+did_audit o rows link lives unit t u e r g =
+    did_after o link lives unit t u (audited_told o.manager u) e
+    (ap (λ rs. tell_all (flat_map (report_told o.manager) rs) u) r) g
 
 -- ---- steps that send
 

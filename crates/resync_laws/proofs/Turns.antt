@@ -1,49 +1,51 @@
 -- What is asked of the manager, and a second.
-use Rattle.std.proofs.Common.{◌≡◌, ℕ, ◌+◌, ◌<◌, ◌≤◌, Bool, true, false, cond, List, [], ◌∷◌, ◌++◌, length, map, Option, Some, None, ◌⊎◌, inl, inr, refl, sym, ap, subst, ◌∙◌, arith, append-nil, nat_le, nat_lt}
+use Rattle.std.proofs.Common.{◌≡◌, ℕ, ◌+◌, Bool, true, false, List, [], ◌∷◌, ◌++◌, map, Option, Some, None, refl, sym, ap, subst, ◌∙◌, nat_le, nat_lt}
 use Rattle.std.proofs.lemmas.Option.{same_Some}
 use Rattle.std.proofs.lemmas.Bool.{false≢true}
-use Rattle.std.specs.List.{flat_map}
 use Rattle.omci_types.specs.declared.EntityId.{EntityId}
 use Rattle.omci_types.specs.declared.Priority.{Priority}
 use Rattle.omci_types.specs.declared.Priority.TheVariants.{Low, High}
 use Rattle.message_spec.specs.declared.Request.{Request}
-use Rattle.message_spec.specs.declared.Request.TheVariants as request
 use Rattle.link_spec.specs.Link.{Sent, Link}
 use Rattle.lane_spec.specs.declared.LaneTick.{LaneTick}
 use Rattle.lane_spec.specs.declared.LaneTick.TheVariants.{Quiet, Repeat, GaveUp}
 use Rattle.lane_spec.specs.declared.TheConstants.{MOST_REPEATS}
-use Rattle.lane_spec.specs.Command.{Command, probe_command, check_command, ask}
-use Rattle.lane_spec.specs.Lane.{Lane, Waiting, with_command, is_changed_by, timeout_of, Ticked, counts_on, repeats_it, gives_up, tick_by, tick_waiting, lane_tick}
+use Rattle.message_spec.specs.declared.Request.TheVariants as request
+use Rattle.lane_spec.specs.Command.{Command, probe_command, check_command, ask, job_command, sync_entity}
+use Rattle.lane_spec.specs.Lane.{Lane, Waiting, with_command, is_changed_by, timeout_of, tick_by, tick_waiting, lane_tick}
 use Rattle.manager_spec.specs.declared.ResyncReason.TheVariants as reason
 use Rattle.manager_spec.specs.declared.Refusal.{Refusal}
-use Rattle.manager_spec.specs.declared.Report.{Report}
 use Rattle.manager_spec.specs.declared.Report.TheVariants as report
-use Rattle.manager_spec.specs.Manager.{Stage, Probing, Asking, Gathering, Manager, Outcome, lane_in, with_lane, with_report, leave_step, sends_nothing, and_then, command_sent}
-use Rattle.manager_spec.specs.Submitting.{unproven, occupied_by, occupied, running, job_running, out_of_step, goes_beside, job_in_the_way, other_change, second_change, first_refusal, Submission, unless_refused, probe_refusal, after_probe, needs_copy, submit_refusal, leaves_copy, leave_if, after_submit, check_refusal, after_check, resync_refusal, resync_begun, after_resync}
-use Rattle.manager_spec.specs.Resync.{with_job, resync_failed, waits_for}
+use Rattle.manager_spec.specs.Manager.{Stage, Probing, Asking, Gathering, AskingAlarms, GatheringRows, Manager, Outcome, lane_in, with_lane, with_report, leave_step, sends_nothing, and_then, command_sent}
+use Rattle.manager_spec.specs.Submitting.{unproven, occupied_by, occupied, running, job_running, out_of_step, job_in_the_way, other_change, second_change, first_refusal, probe_refusal, needs_copy, submit_refusal, leaves_copy, leave_if, check_refusal, resync_refusal, resync_begun, audit_refusal, audit_asked}
+use Rattle.manager_spec.specs.declared.AuditReason.TheVariants as audit
+use Rattle.manager_spec.specs.declared.Job.{Job}
+use Rattle.manager_spec.specs.declared.Job.TheVariants as jobs
+use Rattle.manager_spec.specs.Resync.{with_job}
+use Rattle.manager_spec.specs.Jobs.{job_of, lost_by, job_lost, waits_for}
 use Rattle.manager_spec.specs.Steps.{loss_seen, lane_ticked, tick_lane, after_tick}
-use Rattle.unit_spec.specs.Onu.{Onu, Snapshot, unless_over, second_older, onu_ticked}
+use Rattle.unit_spec.specs.Onu.{Onu, Snapshot, unless_over, second_older, alarms_second_older, onu_ticked}
+use Rattle.alarm_spec.specs.Alarms.{Alarm}
 use Rattle.history_spec.specs.History.{Entry, LastSnapshot}
 use Rattle.upload_spec.specs.Pieces.{without_makers}
-use Rattle.world_spec.specs.Happenings.{ReplyTaken}
-use Rattle.world_spec.specs.Ends.{sends}
+use Rattle.world_spec.specs.Happenings.{ReplyTaken, NoticeTaken}
 use Rattle.world_spec.specs.History.{Told, tell_all}
 use Rattle.resync_laws.specs.Databases.{IsWholeDatabase}
 use Rattle.resync_laws.proofs.Reading.{is_plain}
-use Rattle.resync_laws.proofs.Invariants.{Asks, Gathers, AsksNext, AtStage, JobOk, Held, Good}
+use Rattle.resync_laws.proofs.Invariants.{Gathers, AtStage, JobOk, Held, Good}
 use Rattle.resync_laws.proofs.Sending.{low_later, high_later, low_again, high_again, low_ended, high_ended}
 use Rattle.resync_laws.proofs.Telling.{NoneSynced, none_more, Did, Goes, did_quiet, goes_nothing, goes_low, goes_high, goes_both}
 use Rattle.resync_laws.proofs.Going.{job_at, job_none}
-use Rattle.resync_laws.proofs.Taking.{Mild, mild_same, mild_leave, Fails, fails}
+use Rattle.resync_laws.proofs.Taking.{Mild, mild_same, mild_leave, Fails, fails, fails_audit}
 
 -- ---- refusals
 
-two_none : (a b : Option Refusal) → first_refusal (a ∷ b ∷ []) ≡ None → (a ≡ None) × (b ≡ None)
+pub two_none : (a b : Option Refusal) → first_refusal (a ∷ b ∷ []) ≡ None → (a ≡ None) × (b ≡ None)
 two_none None None e = (refl, refl)
 two_none None (Some b) e = absurd (cc)
 two_none (Some a) b e = absurd (cc)
 
-three_none : (a b c : Option Refusal) → first_refusal (a ∷ b ∷ c ∷ []) ≡ None
+pub three_none : (a b c : Option Refusal) → first_refusal (a ∷ b ∷ c ∷ []) ≡ None
     → (a ≡ None) × (b ≡ None) × (c ≡ None)
 three_none None None None e = (refl, refl, refl)
 three_none None None (Some c) e = absurd (cc)
@@ -51,7 +53,7 @@ three_none None (Some b) c e = absurd (cc)
 three_none (Some a) b c e = absurd (cc)
 
 -- the second and the fourth
-five_none : (a b c d e : Option Refusal) → first_refusal (a ∷ b ∷ c ∷ d ∷ e ∷ []) ≡ None
+pub five_none : (a b c d e : Option Refusal) → first_refusal (a ∷ b ∷ c ∷ d ∷ e ∷ []) ≡ None
     → (b ≡ None) × (d ≡ None)
 five_none None None None None e f = (refl, refl)
 five_none None None None (Some d) e f = absurd (cc)
@@ -59,11 +61,11 @@ five_none None None (Some c) d e f = absurd (cc)
 five_none None (Some b) c d e f = absurd (cc)
 five_none (Some a) b c d e f = absurd (cc)
 
-not_occupied : (o : Option Waiting) → occupied_by o ≡ None → o ≡ None
+pub not_occupied : (o : Option Waiting) → occupied_by o ≡ None → o ≡ None
 not_occupied None e = refl
 not_occupied (Some w) e = absurd (cc)
 
-not_running : (job : Option Stage) → running job ≡ None → job ≡ None
+pub not_running : (job : Option Stage) → running job ≡ None → job ≡ None
 not_running None e = refl
 not_running (Some s) e = absurd (cc)
 
@@ -104,6 +106,14 @@ module _ (m : Manager) (link : Link) (lives : ℕ) (unit : Option Onu) (t : Told
       (goes_high probe_command begun link lives unit t h (not_occupied m.high.outstanding k.0) refl refl (job_at lives unit m.low probing t.low t.asking t.history (Probing true true) refl tt))
       (λ l u g. goes_low false probe_command (command_sent false High probe_command begun).manager l lives unit u g.held (not_occupied m.low.outstanding k.1) (job_at lives unit _ probing u.drawn u.asking u.history (Probing true true) refl tt)))
 
+  pub audit_good : audit_refusal m ≡ None → Did (audit_asked m) link lives unit t
+  audit_good e =
+      let k = three_none (unproven Low m) (occupied Low m) (job_running m) e in
+      let c = job_command sync_entity (request.Alarms 0) in
+      did_quiet (audit_asked m) link lives unit t t refl none_told
+      (goes_low true c (with_job (Some AskingAlarms) m) link lives unit t h (not_occupied m.low.outstanding k.1)
+      (job_at lives unit (with_command c m.low) (Some AskingAlarms) t.drawn t.drawn t.history AskingAlarms refl tt))
+
   -- ---- a request for an entity
 
   mild_if : (b : Bool) → Mild m (leave_if b m)
@@ -142,6 +152,8 @@ stage_later : (lives : ℕ) (unit : Option Onu) (low : Lane) (w v : Waiting) (tl
     → low.outstanding ≡ Some w → v.command ≡ w.command → AtStage lives unit low tlow asking history s
     → AtStage lives unit (record low { outstanding = Some v }) tlow asking history s
 stage_later lives unit low w v tlow asking history (Probing high' low') e same h = tt
+stage_later lives unit low w v tlow asking history AskingAlarms e same h = tt
+stage_later lives unit low w v tlow asking history (GatheringRows expected next) e same h = tt
 stage_later lives unit low w v tlow asking history Asking e same h = record {
   proved = h.proved;
   waiting = v;
@@ -162,8 +174,18 @@ stage_later lives unit low w v tlow asking history (Gathering expected next copy
   },
 )
 
+-- the job, where there is one, has failed
+lost_by_fails : (job : Job) (tci : ℕ) (m : Manager) → Fails m (lost_by job tci m)
+lost_by_fails jobs.Resync tci m = fails (reason.GaveUp tci) m
+lost_by_fails jobs.Audit tci m = fails_audit (audit.GaveUp tci) m
+
+pub lost_fails : (job : Option Stage) (tci : ℕ) (m : Manager) → (job ≡ None → m.job ≡ None)
+    → Fails m (job_lost job tci m)
+lost_fails None tci m e = record { low = refl; high = refl; job = e refl; reports = λ n. n }
+lost_fails (Some stage) tci m e = lost_by_fails (job_of stage) tci m
+
 quiet_loss : (waits changes : Bool) (tci : ℕ) (m : Manager) → NoneSynced m.reports → NoneSynced (loss_seen waits changes tci m).reports
-quiet_loss true changes tci m n = (fails (reason.GaveUp tci) m).reports n
+quiet_loss true changes tci m n = (lost_fails m.job tci m (λ e. e)).reports n
 quiet_loss false true tci m n = (mild_leave m).reports n
 quiet_loss false false tci m n = n
 
@@ -180,10 +202,10 @@ quiet_ticked (GaveUp tci) lane o l m n =
 
 module _ (m : Manager) (link : Link) (lives : ℕ) (unit : Option Onu) (t : Told) (h : Held link.packets unit m.low m.high t) (j : JobOk lives unit m.low m.job t.low t.asking t.history) where
   -- a job that waited for the lane has failed
-  failed_goes : (tci : ℕ) (x : Manager) → Held link.packets unit x.low x.high t → Goes (sends_nothing (resync_failed (reason.GaveUp tci) x)) link lives unit t
+  failed_goes : (tci : ℕ) (x : Manager) → Held link.packets unit x.low x.high t → Goes (sends_nothing (job_lost x.job tci x)) link lives unit t
   failed_goes tci x k =
-      let f = fails (reason.GaveUp tci) x in
-      let y : Manager = resync_failed (reason.GaveUp tci) x in
+      let f = lost_fails x.job tci x (λ e. e) in
+      let y : Manager = job_lost x.job tci x in
       goes_nothing y link lives unit t
       (subst (λ l. Held link.packets unit l y.high t) (sym f.low) (subst (λ l. Held link.packets unit x.low l t) (sym f.high) k))
       (job_none lives unit y.low y.job t.low t.asking t.history f.job)
@@ -203,6 +225,8 @@ module _ (m : Manager) (link : Link) (lives : ℕ) (unit : Option Onu) (t : Told
   unasked : (job : Option Stage) → m.job ≡ job → waits_for Low job ≡ false → (low : Lane) → JobOk lives unit low m.job t.low t.asking t.history
   unasked None e w low = job_none lives unit low m.job t.low t.asking t.history e
   unasked (Some (Probing high' low')) e w low = job_at lives unit low m.job t.low t.asking t.history (Probing high' low') e tt
+  unasked (Some AskingAlarms) e w low = absurd (false≢true (sym w))
+  unasked (Some (GatheringRows expected next)) e w low = absurd (false≢true (sym w))
   unasked (Some Asking) e w low = absurd (false≢true (sym w))
   unasked (Some (Gathering expected next copy)) e w low = absurd (false≢true (sym w))
 
@@ -255,7 +279,7 @@ module _ (m : Manager) (link : Link) (lives : ℕ) (unit : Option Onu) (t : Told
   unfolding lane_tick
   lane_goes lane = tick_by_waiting lane (lane_in lane m).outstanding refl
 
-lane_quiet : (lane : Priority) (m : Manager) → NoneSynced m.reports → NoneSynced (tick_lane lane m).manager.reports
+pub lane_quiet : (lane : Priority) (m : Manager) → NoneSynced m.reports → NoneSynced (tick_lane lane m).manager.reports
 lane_quiet lane m n = quiet_ticked (lane_tick (lane_in lane m)).tick lane (lane_in lane m).outstanding (lane_tick (lane_in lane m)).lane m n
 
 taken_none : (tick : LaneTick) (lane : Priority) (o : Option Waiting) (l : Lane) (m : Manager) → (lane_ticked tick lane o l m).taken ≡ []
@@ -263,7 +287,15 @@ taken_none Quiet lane o l m = refl
 taken_none Repeat lane o l m = refl
 taken_none (GaveUp tci) lane o l m = refl
 
-lane_taken : (lane : Priority) (m : Manager) → (tick_lane lane m).taken ≡ []
+noticed_none : (tick : LaneTick) (lane : Priority) (o : Option Waiting) (l : Lane) (m : Manager) → (lane_ticked tick lane o l m).noticed ≡ []
+noticed_none Quiet lane o l m = refl
+noticed_none Repeat lane o l m = refl
+noticed_none (GaveUp tci) lane o l m = refl
+
+pub lane_noticed : (lane : Priority) (m : Manager) → (tick_lane lane m).noticed ≡ []
+lane_noticed lane m = noticed_none (lane_tick (lane_in lane m)).tick lane (lane_in lane m).outstanding (lane_tick (lane_in lane m)).lane m
+
+pub lane_taken : (lane : Priority) (m : Manager) → (tick_lane lane m).taken ≡ []
 lane_taken lane m = taken_none (lane_tick (lane_in lane m)).tick lane (lane_in lane m).outstanding (lane_tick (lane_in lane m)).lane m
 
 pub tick_good : (m : Manager) (link : Link) (lives : ℕ) (unit : Option Onu) (t : Told)
@@ -274,8 +306,10 @@ unfolding after_tick
 tick_good m link lives unit t h j quiet =
     let a : Outcome = tick_lane High m in
     did_quiet (and_then a (tick_lane Low)) link lives unit t t
-    (ap (λ (l : List Priority). tell_all (map ReplyTaken (l ++ (tick_lane Low a.manager).taken)) t) (lane_taken High m)
-    ∙ ap (λ (l : List Priority). tell_all (map ReplyTaken l) t) (lane_taken Low a.manager))
+    (ap (λ (l : List Priority). tell_all (map ReplyTaken (l ++ (tick_lane Low a.manager).taken) ++ map NoticeTaken (a.noticed ++ (tick_lane Low a.manager).noticed)) t) (lane_taken High m)
+    ∙ ap (λ (l : List Priority). tell_all (map ReplyTaken l ++ map NoticeTaken (a.noticed ++ (tick_lane Low a.manager).noticed)) t) (lane_taken Low a.manager)
+    ∙ ap (λ (l : List Alarm). tell_all (map NoticeTaken (l ++ (tick_lane Low a.manager).noticed)) t) (lane_noticed High m)
+    ∙ ap (λ (l : List Alarm). tell_all (map NoticeTaken l) t) (lane_noticed Low a.manager))
     (lane_quiet Low a.manager (lane_quiet High m (subst NoneSynced (sym quiet) tt)))
     (goes_both a (tick_lane Low) link lives unit t (lane_goes m link lives unit t h j High)
     (λ l u g. lane_goes a.manager l lives unit u g.held g.job Low))
@@ -300,7 +334,7 @@ pub ticked_older : (u : Onu) → IsOlder (Some u) (Some (onu_ticked u))
 unfolding onu_ticked
 ticked_older u = record {
   from = λ v s on has.
-      let k = older_from u.snapshot s (ap (λ (y : Onu). y.snapshot) (same_Some (record u { snapshot = second_older u.snapshot }) v on) ∙ has) in
+      let k = older_from u.snapshot s (ap (λ (y : Onu). y.snapshot) (same_Some (record u { snapshot = second_older u.snapshot; alarm_snapshot = alarms_second_older u.alarm_snapshot }) v on) ∙ has) in
       (u, k.0, refl, k.1, k.2);
 }
 
@@ -310,6 +344,8 @@ nothing_older unit after none = record { from = λ v s on has. absurd (none v s 
 pub stage_older : (lives : ℕ) (before after : Option Onu) (low : Lane) (tlow asking : ℕ) (history : List Entry) (s : Stage)
     → IsOlder before after → AtStage lives before low tlow asking history s → AtStage lives after low tlow asking history s
 stage_older lives before after low tlow asking history (Probing high' low') o h = tt
+stage_older lives before after low tlow asking history AskingAlarms o h = tt
+stage_older lives before after low tlow asking history (GatheringRows expected next) o h = tt
 stage_older lives before after low tlow asking history Asking o h = record {
   proved = h.proved;
   waiting = h.waiting;
@@ -348,6 +384,8 @@ stage_older lives before after low tlow asking history (Gathering expected next 
 pub stage_anew : (lives lives' : ℕ) (before after : Option Onu) (low : Lane) (tlow asking : ℕ) (history : List Entry) (s : Stage)
     → ((v : Onu) (x : Snapshot) → after ≡ Some v → v.snapshot ≡ Some x → ⊥) → AtStage lives before low tlow asking history s → AtStage lives' after low tlow asking history s
 stage_anew lives lives' before after low tlow asking history (Probing high' low') none h = tt
+stage_anew lives lives' before after low tlow asking history AskingAlarms none h = tt
+stage_anew lives lives' before after low tlow asking history (GatheringRows expected next) none h = tt
 stage_anew lives lives' before after low tlow asking history Asking none h = record {
   proved = h.proved;
   waiting = h.waiting;

@@ -1,5 +1,5 @@
 -- What a packet of the manager does to the unit: to its database, and to what it put by.
-use Rattle.std.proofs.Common.{◌≡◌, ℕ, ◌<◌, ◌≤◌, ◌^◌, Bool, true, false, List, [], ◌∷◌, length, take, drop, Option, Some, None, Result, Ok, Err, ◌⊎◌, inl, inr, refl, sym, ap, subst, ◌∙◌, arith}
+use Rattle.std.proofs.Common.{◌≡◌, ℕ, ◌<◌, ◌≤◌, ◌^◌, Bool, true, false, List, length, Option, Some, None, Result, Ok, Err, ◌⊎◌, inl, inr, refl, sym, ap, subst, ◌∙◌, arith}
 use Rattle.std.proofs.lemmas.Bool.{false≢true}
 use Rattle.std.proofs.lemmas.List.{length-take-le}
 use Rattle.omci_types.specs.declared.EntityId.{EntityId}
@@ -11,7 +11,6 @@ use Rattle.message_spec.specs.declared.Message.{Message}
 use Rattle.message_spec.specs.declared.Message.TheVariants.{Asked, Answered, Told}
 use Rattle.message_spec.specs.declared.Request.{Request}
 use Rattle.message_spec.specs.declared.Request.TheVariants as request
-use Rattle.message_spec.specs.declared.Response.TheVariants as response
 use Rattle.message_spec.specs.declared.ContentsFault.{ContentsFault}
 use Rattle.message_spec.specs.declared.ContentsFault.TheVariants.{UnknownType, Bits}
 use Rattle.message_spec.specs.declared.Kind.{Kind}
@@ -20,15 +19,13 @@ use Rattle.message_spec.specs.Fields.{values_at}
 use Rattle.message_spec.specs.Types.{kind_of, row}
 use Rattle.message_spec.specs.Requests.{request_with}
 use Rattle.message_spec.specs.Reading.{plain, message_of, message_typed}
-use Rattle.mib_spec.specs.Requests.{create_outcome, delete_outcome, set_outcome, reset_code, reset}
-use Rattle.upload_spec.specs.Pieces.{without_makers, pieces}
+use Rattle.mib_spec.specs.Requests.{reset_code, reset}
 use Rattle.retry_spec.specs.Kept.{kept_for}
 use Rattle.unit_spec.specs.declared.Did.TheVariants as did
-use Rattle.unit_spec.specs.declared.Note.{Note}
-use Rattle.unit_spec.specs.Onu.{Onu, Snapshot, Reception, Answer, drop_packet, answer, upload, upload_next, next_piece, fresh_again, not_supported, keep_reply, unless_kept, take_request, asks_nothing, unless_quiet, has_request_bits, if_request, for_message, for_frame, onu_received, response_frame}
+use Rattle.unit_spec.specs.Onu.{Onu, Reception, Answer, drop_packet, answer, upload, upload_next, not_supported, keep_reply, unless_kept, take_request, asks_nothing, unless_quiet, has_request_bits, if_request, for_message, for_frame, onu_received}
 use Rattle.resync_laws.specs.Databases.{IsWholeDatabase}
 use Rattle.resync_laws.proofs.Databases.{create_whole, delete_whole, set_whole, whole_unless, reset_whole}
-use Rattle.resync_laws.proofs.Reading.{IsReadOf, read_of, upload_asked, next_asked, is_plain, IsPlainly, plain_asked}
+use Rattle.resync_laws.proofs.Reading.{IsReadOf, read_of, upload_asked, next_asked, is_plain, plain_asked}
 
 -- ---- what is read of a create has the room of a create
 
@@ -239,7 +236,7 @@ carries_whole tci entity q bytes u r made c h =
     go g (inr a) = subst (λ x. IsWholeDatabase x.unit.database) (sym a.is) h
 
 -- the answer to what was read is that of its request
-same_asked : (f : Frame) (u : Onu) (a : Answer) (tci : ℕ) (entity : EntityId) (q : Request)
+pub same_asked : (f : Frame) (u : Onu) (a : Answer) (tci : ℕ) (entity : EntityId) (q : Request)
     → message_of f ≡ Ok (Asked tci entity q) → From f u a → a ≡ answer f q u
 unfolding asked_of
 same_asked f u a tci entity q e (inl k) =

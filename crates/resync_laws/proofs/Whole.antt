@@ -1,5 +1,5 @@
 -- Copies that are whole: each entity, in ascending order, with all of its values.
-use Rattle.std.proofs.Common.{◌≡◌, ℕ, ◌+◌, ◌<◌, ◌≤◌, ◌^◌, Bool, true, false, cond, List, [], ◌∷◌, length, map, Option, Some, None, option_map, Ordering, Less, Equal, Greater, is_eq, refl, sym, ap, subst, ◌∙◌, arith}
+use Rattle.std.proofs.Common.{◌≡◌, ◌+◌, ◌<◌, ◌≤◌, ◌^◌, Bool, true, false, cond, [], ◌∷◌, length, Some, option_map, Ordering, Less, Equal, Greater, is_eq, refl, sym, ap, subst, ◌∙◌, arith}
 use Rattle.std.proofs.lemmas.Option.{same_Some}
 use Rattle.std.specs.Ordering.{match_ordering, ordering_reverse}
 use Rattle.std.specs.Map.{lookup, set_value, remove_entry}
@@ -10,7 +10,7 @@ use Rattle.mib_spec.specs.Database.{Database, Managed, Values, entity_cmp}
 use Rattle.upload_spec.specs.Pieces.{Copy, without_makers}
 use Rattle.mib_laws.proofs.Others.{entity_total, entity_exact}
 use Rattle.upload_laws.specs.Shaped.{IsShaped, IsWholeEntry, ComesBefore, IsWhole}
-use Rattle.resync_laws.proofs.Tables.{IsClassRow, class_is}
+use Rattle.resync_laws.proofs.Tables.{class_is}
 
 pub turned : (a b : EntityId) → entity_cmp a b ≡ Greater → entity_cmp b a ≡ Less
 turned a b h = entity_total.antisymm b a ∙ ap ordering_reverse h

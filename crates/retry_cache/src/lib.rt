@@ -5,12 +5,10 @@
 
 ghost use Rattle.std.specs.Prelude.{◌≡◌, ◌≤◌, length, option_copied, IfSome, None, Some};
 ghost use Rattle.frame_spec.specs.declared.TheConstants.{MAX_PACKET_BYTES};
-ghost use Rattle.tci_spec.specs.Tci.{is_low};
 ghost use Rattle.retry_spec.specs.Kept.{nothing_kept, if_answers, kept_for, kept_with};
 
-use omci_core::{MAX_PACKET_BYTES, Packet};
+use omci_core::{MAX_PACKET_BYTES, Packet, Priority, priority_of};
 use std::marker::Model;
-use tci_spec::FIRST_HIGH_TCI;
 
 /// Room for the reply of one priority. The packet is there once a request's TCI is.
 #[derive(Drop)]
@@ -73,13 +71,6 @@ impl Model for Kept {
     ghost view = { λ k. record { low = k.low; high = k.high } };
 }
 
-/// Whether the TCI is of low priority.
-fn is_low(tci: u16) -> bool
-    ensures value { result ≡ is_low tci }
-{
-    tci < FIRST_HIGH_TCI
-}
-
 impl Kept {
     /// Nothing is kept.
     pub fn new() -> Kept
@@ -98,10 +89,9 @@ impl Kept {
         ensures value { option_copied result ≡ kept_for tci self.now }
         ensures bound { IfSome result (λ reply. length reply.now ≤ MAX_PACKET_BYTES) }
     {
-        if is_low(tci) {
-            self.low.reply_to(tci)
-        } else {
-            self.high.reply_to(tci)
+        match priority_of(tci) {
+            Priority::Low => self.low.reply_to(tci),
+            Priority::High => self.high.reply_to(tci),
         }
     }
 
@@ -112,10 +102,9 @@ impl Kept {
         requires { length reply.now ≤ MAX_PACKET_BYTES }
         ensures kept { self.new ≡ kept_with tci reply.now self.old }
     {
-        if is_low(tci) {
-            self.low.put(tci, reply);
-        } else {
-            self.high.put(tci, reply);
+        match priority_of(tci) {
+            Priority::Low => self.low.put(tci, reply),
+            Priority::High => self.high.put(tci, reply),
         }
     }
 }

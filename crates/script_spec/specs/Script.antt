@@ -6,7 +6,7 @@ use Rattle.omci_types.specs.declared.Priority.{Priority}
 use Rattle.omci_types.specs.declared.EntityId.{EntityId}
 use Rattle.frame_spec.specs.declared.TheConstants.{LAST_NUMBER}
 use Rattle.script_spec.specs.declared.TheConstants.{LAST_PACKET, MAX_ID, MAX_CREATE, MAX_SET}
-use Rattle.script_spec.specs.declared.TheConstants.{MAX_FLOW, MAX_NOISE, MAX_ROOM}
+use Rattle.script_spec.specs.declared.TheConstants.{MAX_ATTRIBUTE, MAX_SENSED, MAX_BITMAP, MAX_FLOW, MAX_NOISE, MAX_ROOM}
 use Rattle.script_spec.specs.declared.Line.{Line}
 use Rattle.script_spec.specs.declared.Line.TheVariants as lines
 use Rattle.script_spec.specs.Fields.{Value, Lane, Number, Bytes, lane_in, number_in, bytes_in, Form}
@@ -22,8 +22,9 @@ pub data Action : Type 0 where
   Create : Priority → EntityId → List ℕ → Action
   Set : Priority → EntityId → ℕ → List ℕ → Action
   Delete : Priority → EntityId → Action
-  -- the manager's resynchronisation, and its comparison of both counters
+  -- the manager's resynchronisation, its audit of the alarms, and its comparison of both counters
   Resync : Action
+  Audit : Action
   Check : Action
   -- the link
   Deliver : ℕ → Action
@@ -32,6 +33,9 @@ pub data Action : Type 0 where
   NoiseOlt : List ℕ → Action
   -- one second
   Tick : Action
+  -- the unit measures an attribute's value, or notices an entity's alarms
+  Sense : EntityId → ℕ → List ℕ → Action
+  Alarm : EntityId → List ℕ → Action
   -- power, and the first numbers of the manager's two lanes
   CutUnit : Action
   CutOlt : Action
@@ -64,12 +68,16 @@ row lines.Create = line (codes "create" ∷ []) (LaneName ∷ id ∷ id ∷ HexB
 row lines.Set = line (codes "set" ∷ []) (LaneName ∷ id ∷ id ∷ MaskDigits ∷ HexBytes 0 MAX_SET ∷ [])
 row lines.Delete = line (codes "delete" ∷ []) (LaneName ∷ id ∷ id ∷ [])
 row lines.Resync = line (codes "resync" ∷ []) []
+row lines.Audit = line (codes "audit" ∷ []) []
 row lines.Check = line (codes "check" ∷ []) []
 row lines.Deliver = line (codes "deliver" ∷ []) (Decimal 0 LAST_PACKET ∷ [])
 row lines.Flow = line (codes "flow" ∷ []) (Decimal 1 MAX_FLOW ∷ [])
 row lines.NoiseUnit = line (codes "noise" ∷ codes "unit" ∷ []) (NoiseBytes MAX_NOISE ∷ [])
 row lines.NoiseOlt = line (codes "noise" ∷ codes "olt" ∷ []) (NoiseBytes MAX_NOISE ∷ [])
 row lines.Tick = line (codes "tick" ∷ []) []
+row lines.Sense =
+    line (codes "sense" ∷ []) (id ∷ id ∷ Decimal 1 MAX_ATTRIBUTE ∷ HexBytes 1 MAX_SENSED ∷ [])
+row lines.Alarm = line (codes "alarm" ∷ []) (id ∷ id ∷ HexBytes 0 MAX_BITMAP ∷ [])
 row lines.CutUnit = line (codes "cut" ∷ codes "unit" ∷ []) []
 row lines.CutOlt = line (codes "cut" ∷ codes "olt" ∷ []) []
 row lines.StartUnit = line (codes "start" ∷ codes "unit" ∷ []) []
@@ -79,8 +87,8 @@ row lines.StartOlt = line (codes "start" ∷ codes "olt" ∷ []) (lane_number �
 abbrev pub all_lines : List Line
 all_lines =
     lines.Probe ∷ lines.Reset ∷ lines.Get ∷ lines.Create ∷ lines.Set ∷ lines.Delete
-    ∷ lines.Resync ∷ lines.Check ∷ lines.Deliver ∷ lines.Flow ∷ lines.NoiseUnit ∷ lines.NoiseOlt
-    ∷ lines.Tick ∷ lines.CutUnit ∷ lines.CutOlt ∷ lines.StartUnit ∷ lines.StartOlt ∷ []
+    ∷ lines.Resync ∷ lines.Audit ∷ lines.Check ∷ lines.Deliver ∷ lines.Flow ∷ lines.NoiseUnit
+    ∷ lines.NoiseOlt ∷ lines.Tick ∷ lines.Sense ∷ lines.Alarm ∷ lines.CutUnit ∷ lines.CutOlt ∷ lines.StartUnit ∷ lines.StartOlt ∷ []
 
 -- ---- an action and its line
 
@@ -106,12 +114,18 @@ said (Set lane entity mask values) =
 said (Delete lane entity) =
     says lines.Delete (Lane lane ∷ Number entity.class ∷ Number entity.instance ∷ [])
 said Resync = says lines.Resync []
+said Audit = says lines.Audit []
 said Check = says lines.Check []
 said (Deliver packet) = says lines.Deliver (Number packet ∷ [])
 said (Flow times) = says lines.Flow (Number times ∷ [])
 said (NoiseUnit bytes) = says lines.NoiseUnit (Bytes bytes ∷ [])
 said (NoiseOlt bytes) = says lines.NoiseOlt (Bytes bytes ∷ [])
 said Tick = says lines.Tick []
+said (Sense entity number value) =
+    says lines.Sense
+    (Number entity.class ∷ Number entity.instance ∷ Number number ∷ Bytes value ∷ [])
+said (Alarm entity bitmap) =
+    says lines.Alarm (Number entity.class ∷ Number entity.instance ∷ Bytes bitmap ∷ [])
 said CutUnit = says lines.CutUnit []
 said CutOlt = says lines.CutOlt []
 said StartUnit = says lines.StartUnit []
@@ -153,12 +167,15 @@ action_with lines.Create v = Create (lane_at 0 v) (entity_at 1 v) (bytes_at 3 v)
 action_with lines.Set v = Set (lane_at 0 v) (entity_at 1 v) (number_at 3 v) (bytes_at 4 v)
 action_with lines.Delete v = Delete (lane_at 0 v) (entity_at 1 v)
 action_with lines.Resync v = Resync
+action_with lines.Audit v = Audit
 action_with lines.Check v = Check
 action_with lines.Deliver v = Deliver (number_at 0 v)
 action_with lines.Flow v = Flow (number_at 0 v)
 action_with lines.NoiseUnit v = NoiseUnit (bytes_at 0 v)
 action_with lines.NoiseOlt v = NoiseOlt (bytes_at 0 v)
 action_with lines.Tick v = Tick
+action_with lines.Sense v = Sense (entity_at 0 v) (number_at 2 v) (bytes_at 3 v)
+action_with lines.Alarm v = Alarm (entity_at 0 v) (bytes_at 2 v)
 action_with lines.CutUnit v = CutUnit
 action_with lines.CutOlt v = CutOlt
 action_with lines.StartUnit v = StartUnit

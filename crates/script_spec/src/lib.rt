@@ -13,12 +13,15 @@ pub enum Line {
     Set,
     Delete,
     Resync,
+    Audit,
     Check,
     Deliver,
     Flow,
     NoiseUnit,
     NoiseOlt,
     Tick,
+    Sense,
+    Alarm,
     CutUnit,
     CutOlt,
     StartUnit,
@@ -39,6 +42,12 @@ pub const MAX_MASK: u64 = 65_535;
 pub const MAX_CREATE: usize = 32;
 /// The most bytes of values that a set has.
 pub const MAX_SET: usize = 30;
+/// The largest number of an attribute.
+pub const MAX_ATTRIBUTE: u64 = 16;
+/// The most bytes of a measured value.
+pub const MAX_SENSED: usize = 25;
+/// The most bytes of an entity's alarms.
+pub const MAX_BITMAP: usize = 28;
 /// The most packets that one line lets flow.
 pub const MAX_FLOW: u64 = 65_536;
 /// The most bytes of a line's noise.

@@ -1,5 +1,6 @@
 //! The traits of a disk: its calls, and what they mean where it tells.
-ghost use Rattle.std.specs.Prelude.{◌≡◌, ℕ, ◌+◌, ◌≤◌, List, [], ◌∷◌, length, Option, Some, IsSome, OnOk, IfOk};
+ghost use Rattle.std.specs.Prelude.{◌≡◌, ℕ, ◌+◌, ◌≤◌, List, [], ◌∷◌, length, Option, Some, IsSome};
+ghost use Rattle.std.specs.Prelude.{OnOk, IfOk};
 ghost use Rattle.std.specs.Result.{is_err};
 ghost use Rattle.omci_core.specs.Causes.{HasCause};
 ghost use Rattle.slot_spec.specs.declared.Pick.{Pick};
@@ -38,35 +39,46 @@ pub trait Disk: Drop {
 
     /// Goes to the disk of this name, and answers how many bytes it has.
     fn attach(&mut self, name: &[u8]) -> Result<u64, Failed>
-        ensures length { (bytes : List ℕ) → seen self.old ≡ Some bytes → IfOk result (λ size. size ≡ length bytes) }
+        ensures length { (bytes : List ℕ) → seen self.old ≡ Some bytes
+            → IfOk result (λ size. size ≡ length bytes) }
         ensures seen { seen self.new ≡ seen self.old }
-        ensures moments { Moments clock left_since may_leave self.old self.new (may_leave self.old) }
+        ensures moments { Moments clock left_since may_leave self.old self.new
+            (may_leave self.old) }
         ensures rig { Makes (Read 0 0 ∷ []) (rig self.old) (rig self.new) (is_err result) }
         ensures cause { HasCause (faults self.old) (faults self.new) result };
 
     /// Reads the bytes of a range. `Failed` where the range ends past the disk, or by a fault.
     fn read_at(&mut self, at: u64, into: &mut [u8]) -> Result<(), Failed>
-        ensures bytes { (bytes : List ℕ) → seen self.old ≡ Some bytes → OnOk result (into.new ≡ field at (length into.new) bytes) }
-        ensures inside { (bytes : List ℕ) → seen self.old ≡ Some bytes → OnOk result (at + length into.new ≤ length bytes) }
+        ensures bytes { (bytes : List ℕ) → seen self.old ≡ Some bytes
+            → OnOk result (into.new ≡ field at (length into.new) bytes) }
+        ensures inside { (bytes : List ℕ) → seen self.old ≡ Some bytes
+            → OnOk result (at + length into.new ≤ length bytes) }
         ensures seen { seen self.new ≡ seen self.old }
-        ensures moments { Moments clock left_since may_leave self.old self.new (may_leave self.old) }
-        ensures rig { Makes (Read at (length into.new) ∷ []) (rig self.old) (rig self.new) (is_err result) }
+        ensures moments { Moments clock left_since may_leave self.old self.new
+            (may_leave self.old) }
+        ensures rig { Makes (Read at (length into.new) ∷ []) (rig self.old) (rig self.new)
+            (is_err result) }
         ensures cause { HasCause (faults self.old) (faults self.new) result };
 
     /// Writes the bytes of a range, which may end past the disk's end where the disk can grow.
     /// Until a sync a crash may leave any bytes there, and so may a write that failed.
     fn write_at(&mut self, at: u64, from: &[u8]) -> Result<(), Failed>
-        ensures written { (bytes : List ℕ) → seen self.old ≡ Some bytes → OnOk result ((now : List ℕ) × (seen self.new ≡ Some now) × Written at from.now bytes now) }
+        ensures written { (bytes : List ℕ) → seen self.old ≡ Some bytes
+            → OnOk result ((now : List ℕ) × (seen self.new ≡ Some now)
+            × Written at from.now bytes now) }
         ensures told { IsSome (seen self.old) → IsSome (seen self.new) }
-        ensures moments { Moments clock left_since may_leave self.old self.new (TornFrom at (length from.now) (may_leave self.old)) }
+        ensures moments { Moments clock left_since may_leave self.old self.new
+            (TornFrom at (length from.now) (may_leave self.old)) }
         ensures rig { Makes (Write at from.now ∷ []) (rig self.old) (rig self.new) (is_err result) }
         ensures cause { HasCause (faults self.old) (faults self.new) result };
 
     /// Makes all that was written durable: once it is Ok, a crash leaves what a read gives.
     fn sync(&mut self) -> Result<(), Failed>
-        ensures durable { (bytes : List ℕ) → seen self.old ≡ Some bytes → OnOk result ((image : List ℕ) → may_leave self.new image → image ≡ bytes) }
+        ensures durable { (bytes : List ℕ) → seen self.old ≡ Some bytes
+            → OnOk result ((image : List ℕ) → may_leave self.new image → image ≡ bytes) }
         ensures seen { seen self.new ≡ seen self.old }
-        ensures moments { Moments clock left_since may_leave self.old self.new (may_leave self.old) }
+        ensures moments { Moments clock left_since may_leave self.old self.new
+            (may_leave self.old) }
         ensures rig { Makes (Sync ∷ []) (rig self.old) (rig self.new) (is_err result) }
         ensures cause { HasCause (faults self.old) (faults self.new) result };
 
@@ -74,16 +86,20 @@ pub trait Disk: Drop {
     ghost rig_reads: { (disk : Self) (r : Rigged) → rig disk ≡ Some r → seen disk ≡ Some r.bytes };
 
     // What a cut leaves is one of those that a crash may leave.
-    ghost cut_counts: { (disk : Self) (r : Rigged) (pick : Pick) → rig disk ≡ Some r → may_leave disk (r.cut pick) };
+    ghost cut_counts: { (disk : Self) (r : Rigged) (pick : Pick) → rig disk ≡ Some r
+        → may_leave disk (r.cut pick) };
 
     // A disk as it reads is one of those that a crash may leave.
-    ghost leaves_seen: { (disk : Self) (bytes : List ℕ) → seen disk ≡ Some bytes → may_leave disk bytes };
+    ghost leaves_seen: { (disk : Self) (bytes : List ℕ) → seen disk ≡ Some bytes
+        → may_leave disk bytes };
 
     // This moment is one of those since an earlier time.
-    ghost counts_now: { (disk : Self) (time : ℕ) (image : List ℕ) → time ≤ clock disk → may_leave disk image → left_since disk time image };
+    ghost counts_now: { (disk : Self) (time : ℕ) (image : List ℕ) → time ≤ clock disk
+        → may_leave disk image → left_since disk time image };
 
     // Since this moment there was no other.
-    ghost only_now: { (disk : Self) (image : List ℕ) → left_since disk (clock disk) image → may_leave disk image };
+    ghost only_now: { (disk : Self) (image : List ℕ) → left_since disk (clock disk) image
+        → may_leave disk image };
 }
 
 /// A disk whose calls can be made to fail: it tells what it holds, what a cut of the power would
@@ -93,10 +109,12 @@ pub trait Rig: Disk {
     fn rig(&mut self, trap: Trap)
         requires { IsTrap trap }
         ensures seen { Self.seen self.new ≡ Self.seen self.old }
-        ensures moments { Moments Self.clock Self.left_since Self.may_leave self.old self.new (Self.may_leave self.old) }
+        ensures moments { Moments Self.clock Self.left_since Self.may_leave self.old self.new
+            (Self.may_leave self.old) }
         ensures clock { Self.clock self.new ≡ Self.clock self.old }
         ensures faults { Self.faults self.new ≡ Self.faults self.old }
-        ensures trap { (r : Rigged) → Self.rig self.old ≡ Some r → Self.rig self.new ≡ Some (record r { trap = trap }) };
+        ensures trap { (r : Rigged) → Self.rig self.old ≡ Some r
+            → Self.rig self.new ≡ Some (record r { trap = trap }) };
 
     // It tells what it holds.
     ghost tells: { (disk : Self) → IsSome (Self.rig disk) };

@@ -1,7 +1,11 @@
 //! A disk in memory, whose power can be cut at each call.
-ghost use Rattle.std.specs.Prelude.{◌≡◌, ℕ, ◌+◌, ◌≤◌, ◌<◌, if◌then◌else◌, set, List, [], ◌∷◌, ◌++◌, Bool, true, false, length, take, drop, replicate, nat_le, Option, Some, IfOk};
+ghost use Rattle.std.specs.Prelude.{◌≡◌, ℕ, ◌+◌, ◌≤◌, ◌<◌, if◌then◌else◌, set, List, [], ◌∷◌, ◌++◌};
+ghost use Rattle.std.specs.Prelude.{Bool, true, false, length, take, drop, replicate, nat_le};
+ghost use Rattle.std.specs.Prelude.{Option, Some, IfOk};
 ghost use Rattle.slot_spec.specs.Rig.{with_bytes, power_restored};
-ghost use Rattle.slot_disk.specs.Memory.{MayLeave, rig_of, after_step, after_fault, after_begin, after_finish, after_sync, with_marks, with_byte, zero_disk, after_restore, cut_by};
+ghost use Rattle.slot_disk.specs.Memory.{MayLeave, rig_of, after_step, after_fault, after_begin};
+ghost use Rattle.slot_disk.specs.Memory.{after_finish, after_sync, with_marks, with_byte};
+ghost use Rattle.slot_disk.specs.Memory.{zero_disk, after_restore, cut_by};
 
 use crate::disk::{Disk, Rig};
 use crate::trap::{is_met, meets_fuse, one_call_nearer, pick, without_spent_fuse};
@@ -27,9 +31,24 @@ impl Model for MemDisk {
 
     ghost Value = { MemState };
 
-    ghost view = { λ m. record { bytes = m.bytes.items; settled = m.settled.items; newest = m.newest.items; dirty = m.dirty.items; trap = m.trap; faults = m.faults } };
+    ghost view = { λ m. record {
+      bytes = m.bytes.items;
+      settled = m.settled.items;
+      newest = m.newest.items;
+      dirty = m.dirty.items;
+      trap = m.trap;
+      faults = m.faults;
+    } };
 
-    ghost invariant = { λ m. IsDisk (record { bytes = m.bytes.items; settled = m.settled.items; newest = m.newest.items; dirty = m.dirty.items; trap = m.trap; faults = m.faults }) };
+    ghost invariant = { λ m. IsDisk
+        (record {
+          bytes = m.bytes.items;
+          settled = m.settled.items;
+          newest = m.newest.items;
+          dirty = m.dirty.items;
+          trap = m.trap;
+          faults = m.faults;
+        }) };
 }
 
 impl MemDisk {
@@ -58,7 +77,8 @@ impl MemDisk {
     // A read gives the bytes of a write that has begun.
     fn finish(&mut self, at: usize, from: &[u8])
         requires within { at + length from.now ≤ length self.old.bytes }
-        requires dirty { take (length from.now) (drop at self.old.dirty) ≡ replicate (length from.now) true }
+        requires dirty { take (length from.now) (drop at self.old.dirty)
+            ≡ replicate (length from.now) true }
         ensures state { self.new ≡ after_finish at from.now self.old }
     {
         overwrite(&mut self.bytes, at, from);
@@ -300,7 +320,8 @@ fn fill_marked(bytes: &mut Vec<u8>, marks: &Vec<bool>, byte: u8)
 
 fn put_if(bytes: &mut Vec<u8>, place: usize, marked: bool, byte: u8)
     requires within { place < length bytes.old.items }
-    ensures put { bytes.new.items ≡ (if marked then set bytes.old.items place byte else bytes.old.items) }
+    ensures put { bytes.new.items
+        ≡ (if marked then set bytes.old.items place byte else bytes.old.items) }
     ensures len { length bytes.new.items ≡ length bytes.old.items }
 {
     if marked {

@@ -1,6 +1,7 @@
 //! The trap of a disk in memory, call by call.
 ghost use Rattle.std.specs.Prelude.{◌≡◌};
-ghost use Rattle.slot_spec.specs.Rig.{trap_is_met, trap_after, fuse_is_met, trap_after_restore, pick_of};
+ghost use Rattle.slot_spec.specs.Rig.{trap_is_met, trap_after, fuse_is_met, trap_after_restore};
+ghost use Rattle.slot_spec.specs.Rig.{pick_of};
 
 use slot_spec::{Pick, Trap};
 

@@ -1,7 +1,7 @@
 //! The top call over memory.
 
 use omci_core::{MemSink, MemSource, NoMemory, Words};
-use omci_top::{End, omci};
+use omci_top::{End, Status, omci};
 use slot_disk::{Disk, MemDisk};
 use std::alloc::Global;
 
@@ -31,8 +31,28 @@ pub fn source_of(alloc: Global, byte: u8, count: usize) -> Result<MemSource, NoM
     Ok(MemSource::new(vec![in alloc; byte; count]?, Vec::new(alloc)))
 }
 
+/// A disk of so many zeros, whose call of this number fails. There is no call 0.
+pub fn disk_of(alloc: Global, length: u64, fails: u64) -> Result<MemDisk, NoMemory> {
+    let mut disk = MemDisk::new(alloc, length)?;
+    if fails > 0 {
+        disk.fail_at(fails);
+    }
+    Ok(disk)
+}
+
 /// Whether no call was made of a disk whose next call was to fail.
 pub fn is_untouched(disk: MemDisk) -> bool {
     let mut disk = disk;
     disk.sync().is_err() && disk.sync().is_ok()
+}
+
+/// Whether a call with these words ends so and calls no disk.
+pub fn calls_no_disk(
+    alloc: Global,
+    words: &[&[u8]],
+    source: &mut MemSource,
+    status: Status,
+) -> Result<bool, NoMemory> {
+    let end = call(alloc, words, source, disk_of(alloc, LENGTH, 1)?)?;
+    Ok(end.status == status && is_untouched(end.disk))
 }

@@ -1,1 +1,2 @@
 pub mod Onu
+pub mod Noticing

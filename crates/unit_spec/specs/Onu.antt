@@ -1,5 +1,5 @@
--- The unit: its database, for each priority the reply that it gave last, and the database that it
--- put by for an upload.
+-- The unit: its database, for each priority the reply that it gave last, its alarms, and what it put
+-- by: the database for an upload, the alarms for an audit.
 use Rattle.std.specs.Prelude.{ℕ, ◌+◌, ◌-◌, ◌/◌, ◌==◌, ◌&&◌, is_none, nat_le, Bool, true, false, List, [], ◌∷◌, length, replicate, Option, Some, None, Result, Ok, Err}
 use Rattle.omci_types.specs.declared.Code.{Code}
 use Rattle.omci_types.specs.declared.Frame.{Frame}
@@ -18,6 +18,8 @@ use Rattle.mib_spec.specs.Database.{Database, first, counter}
 use Rattle.mib_spec.specs.Requests.{create_code, create_outcome, delete_outcome, set_outcome, get_outcome, reset_code, reset, unless_refused}
 use Rattle.retry_spec.specs.Kept.{Kept, nothing_kept, kept_for, kept_with}
 use Rattle.upload_spec.specs.Pieces.{without_makers, pieces, piece_at}
+use Rattle.alarm_spec.specs.Alarms.{Alarms, row_at}
+use Rattle.alarm_spec.specs.Log.{Log, new_log, after_snapshot}
 use Rattle.unit_spec.specs.declared.TheConstants.{SNAPSHOT_SECONDS}
 use Rattle.unit_spec.specs.declared.Note.{Note}
 use Rattle.unit_spec.specs.declared.Note.TheVariants as note
@@ -29,14 +31,28 @@ pub record Snapshot : Type 0 where
   pub database : Database
   pub age : ℕ
 
+-- alarms that were put by, and the seconds since then or since they were last asked for a row
+pub record AlarmSnapshot : Type 0 where
+  pub alarms : Alarms
+  pub age : ℕ
+
 pub record Onu : Type 0 where
   pub database : Database
   pub kept : Kept
   pub snapshot : Option Snapshot
+  pub log : Log
+  pub alarm_snapshot : Option AlarmSnapshot
 
--- a unit that starts: the first database, nothing kept, and nothing put by
+-- a unit that starts: the first database, nothing kept, no alarms, and nothing put by
 unfoldable pub onu_started : Software → Onu
-onu_started software = record { database = first software; kept = nothing_kept; snapshot = None }
+onu_started software =
+    record {
+      database = first software;
+      kept = nothing_kept;
+      snapshot = None;
+      log = new_log;
+      alarm_snapshot = None;
+    }
 
 -- what a packet comes to: the unit after it, what it did, and its reply, which is empty where it gave none
 pub record Reception : Type 0 where
@@ -103,6 +119,32 @@ abbrev pub upload_next : Frame → ℕ → Onu → Answer
 upload_next f number u =
     respond f (response.UploadNext (next_piece number u.snapshot)) (record u { snapshot = fresh_again u.snapshot })
 
+-- get all alarms: the alarms are put by, the next notice has the number 1, and the response says how many rows there are
+abbrev pub get_alarms : Frame → Onu → Answer
+get_alarms f u =
+    record {
+      reply = response_frame f (response.Alarms (length u.log.alarms));
+      unit = record u {
+        log = after_snapshot u.log;
+        alarm_snapshot = Some (record { alarms = u.log.alarms; age = 0 });
+      };
+      note = Some (note.Alarms (length u.log.alarms));
+    }
+
+-- the next of them: the row of that number of what was put by, whose age begins anew
+abbrev pub next_row : ℕ → Option AlarmSnapshot → List ℕ
+next_row number None = or_zeros None
+next_row number (Some s) = or_zeros (row_at number s.alarms)
+
+abbrev pub alarms_fresh_again : Option AlarmSnapshot → Option AlarmSnapshot
+alarms_fresh_again None = None
+alarms_fresh_again (Some s) = Some (record s { age = 0 })
+
+abbrev pub alarms_next : Frame → ℕ → Onu → Answer
+alarms_next f number u =
+    respond f (response.AlarmsNext (next_row number u.alarm_snapshot))
+    (record u { alarm_snapshot = alarms_fresh_again u.alarm_snapshot })
+
 -- the requests that the unit carries out
 unfoldable pub answer : Frame → Request → Onu → Answer
 answer f (request.Create values) u =
@@ -117,8 +159,8 @@ answer f (request.Get mask) u =
     respond f (response.Get (code o.code) o.mask o.values o.unsupported 0) u
 answer f request.Reset u =
     respond f (response.Reset (code (reset_code f.entity))) (with_database (unless_refused (reset_code f.entity) (reset u.database) u.database) u)
-answer f (request.Alarms mode) u = not_supported f u
-answer f (request.AlarmsNext number) u = not_supported f u
+answer f (request.Alarms mode) u = get_alarms f u
+answer f (request.AlarmsNext number) u = alarms_next f number u
 answer f request.Upload u = upload f u
 answer f (request.UploadNext number) u = upload_next f number u
 answer f (request.Start window size targets target) u = not_supported f u
@@ -191,15 +233,29 @@ abbrev pub second_older : Option Snapshot → Option Snapshot
 second_older None = None
 second_older (Some s) = unless_over (nat_le SNAPSHOT_SECONDS (s.age + 1)) s
 
+abbrev pub alarms_unless_over : Bool → AlarmSnapshot → Option AlarmSnapshot
+alarms_unless_over true s = None
+alarms_unless_over false s = Some (record s { age = s.age + 1 })
+
+-- the same of the alarms
+abbrev pub alarms_second_older : Option AlarmSnapshot → Option AlarmSnapshot
+alarms_second_older None = None
+alarms_second_older (Some s) = alarms_unless_over (nat_le SNAPSHOT_SECONDS (s.age + 1)) s
+
 unfoldable pub onu_ticked : Onu → Onu
-onu_ticked u = record u { snapshot = second_older u.snapshot }
+onu_ticked u =
+    record u {
+      snapshot = second_older u.snapshot;
+      alarm_snapshot = alarms_second_older u.alarm_snapshot;
+    }
 
 -- ---- memory
 
--- whether carrying a request out takes memory: an entity is made, or the database is put by
+-- whether carrying a request out takes memory: an entity is made, or the database or the alarms are put by
 abbrev pub takes_room : Frame → Request → Database → Bool
 takes_room f (request.Create values) db = create_code f.entity db == 0
 takes_room f request.Upload db = true
+takes_room f (request.Alarms mode) db = true
 takes_room f _ db = false
 
 abbrev pub message_takes : Result Message ContentsFault → Frame → Onu → Bool
@@ -212,6 +268,6 @@ abbrev pub frame_takes : Option Frame → Onu → Bool
 frame_takes None u = false
 frame_takes (Some f) u = message_takes (message_of f) f u
 
--- whether a packet takes memory: it asks for an entity that will be made or for an upload, and no kept reply answers it
+-- whether a packet takes memory: it asks for an entity that will be made, an upload or the alarms, and no kept reply answers it
 unfoldable pub takes_memory : List ℕ → Onu → Bool
 takes_memory bytes u = frame_takes (packet_frame bytes) u

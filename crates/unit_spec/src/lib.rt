@@ -10,6 +10,19 @@ pub const SNAPSHOT_SECONDS: u8 = 60;
 pub enum Note {
     /// The unit put its database by for an upload: so many entities, with this counter.
     Snapshot { entities: u16, counter: u8 },
+    /// The unit put its alarms by for an audit: so many rows.
+    Alarms { rows: u16 },
+}
+
+/// What became of a value or of alarms that the unit noticed by itself.
+#[derive(Clone, Copy, Debug, PartialEq, Eq)]
+pub enum Noticed {
+    /// The entity or the attribute takes none, and nothing has changed.
+    NotAllowed,
+    /// They are held already, and nothing has changed.
+    Same,
+    /// They are held now, and a notice tells it.
+    Sent,
 }
 
 /// What the unit did with a packet.

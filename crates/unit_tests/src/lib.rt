@@ -2,4 +2,8 @@
 #![tactic(auto)]
 
 #[cfg(test)]
+mod notices;
+#[cfg(test)]
+mod played;
+#[cfg(test)]
 mod uploads;

@@ -6,7 +6,7 @@ use Rattle.omci_types.specs.declared.EntityId.{EntityId}
 use Rattle.class_spec.specs.Classes.{Attribute}
 use Rattle.class_spec.specs.Masks.{has, bit_of}
 use Rattle.mib_spec.specs.Database.{Database, Values, bytes_of, entity}
-use Rattle.mib_spec.specs.Requests.{with_zeros}
+use Rattle.frame_spec.specs.Widths.{filled}
 use Rattle.upload_spec.specs.declared.TheConstants.{PIECE_ROOM}
 
 -- whether a value goes into the piece that these values are in
@@ -37,7 +37,7 @@ mask_of (one ∷ rest) = bit_of one.0 + mask_of rest
 -- a piece: class, instance, mask, and the values, with zeros after them
 unfoldable pub piece_of : EntityId → Values → List ℕ
 piece_of one group =
-    to_be_bytes w16 one.class ++ to_be_bytes w16 one.instance ++ to_be_bytes w16 (mask_of group) ++ with_zeros PIECE_ROOM (bytes_of group)
+    to_be_bytes w16 one.class ++ to_be_bytes w16 one.instance ++ to_be_bytes w16 (mask_of group) ++ filled PIECE_ROOM (bytes_of group)
 
 abbrev pub pieces_of : EntityId → Values → List (List ℕ)
 pieces_of one values = map (piece_of one) (groups values)

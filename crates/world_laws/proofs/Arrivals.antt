@@ -413,7 +413,7 @@ noted_follows : (note : Option Note) (i : ℕ) (s : Sent) (reply : List ℕ) (li
 noted_follows None i s reply link lives u w manager t p h =
     (RequestComes i (Some (record { reply = reply; before = u.database })) ∷ [], h)
 noted_follows (Some note) i s reply link lives u w manager t p h =
-    let more = remark_follows (remark_of lives (name_at i t.names) note u.database) _ lives (Some w)
+    let more = remark_follows (remark_of lives (name_at i t.names) note u) _ lives (Some w)
     manager (executed_told i s lives reply u t) _ h in
     (RequestComes i (Some (record { reply = reply; before = u.database })) ∷ more.0, more.1)
 

@@ -8,11 +8,12 @@ use Rattle.manager_spec.specs.declared.Report.{Report}
 use Rattle.manager_spec.specs.declared.Report.TheVariants as report
 use Rattle.manager_spec.specs.Manager.{Manager, Sending, Outcome, and_then}
 use Rattle.unit_spec.specs.Onu.{Onu}
-use Rattle.history_spec.specs.History.{Remark, Remarked, Synced}
+use Rattle.alarm_spec.specs.Alarms.{Alarm}
+use Rattle.history_spec.specs.History.{Remark, Remarked, Synced, Audited}
 use Rattle.moves_spec.specs.Channel.{Channel}
 use Rattle.moves_spec.specs.Moves.{Write, after_moves}
-use Rattle.world_spec.specs.Happenings.{Happening, ReplyTaken, link_read, on_link}
-use Rattle.world_spec.specs.Ends.{sends, reported}
+use Rattle.world_spec.specs.Happenings.{Happening, ReplyTaken, NoticeTaken, link_read, on_link}
+use Rattle.world_spec.specs.Ends.{sends, copy_told, report_told}
 use Rattle.world_spec.specs.History.{Told, tell, tell_all}
 use Rattle.world_laws.proofs.Likeness.{Like, Follows, after_both, SameLanes, like_same_lanes}
 
@@ -82,25 +83,33 @@ remark_follows r link lives unit manager t p h = (
   },
 )
 
-report_follows : (r : Report) (copy : Option Copy) (link : Link) (lives : ℕ) (unit : Option Onu)
+copy_follows : (copy : Option Copy) (link : Link) (lives : ℕ) (unit : Option Onu)
     (manager : Option Manager) (t : Told) (p : Channel) → Like link lives unit manager t p
-    → Happens (reported copy r) link lives unit manager t p
-report_follows (report.Synced entities counter) (Some copy) link lives unit manager t p h =
+    → Happens (copy_told copy) link lives unit manager t p
+copy_follows (Some copy) link lives unit manager t p h =
     remark_follows (Synced t.asking copy) link lives unit manager t p h
-report_follows (report.Synced entities counter) None link lives unit manager t p h = ([], h)
-report_follows _ copy link lives unit manager t p h = ([], h)
+copy_follows None link lives unit manager t p h = ([], h)
 
--- reports, each with the copy that it tells
-pub reports_follow : (rs : List Report) (copy : Option Copy) (link : Link) (lives : ℕ)
+report_follows : (r : Report) (m : Manager) (link : Link) (lives : ℕ) (unit : Option Onu)
+    (manager : Option Manager) (t : Told) (p : Channel) → Like link lives unit manager t p
+    → Happens (report_told m r) link lives unit manager t p
+report_follows (report.Synced entities counter) m link lives unit manager t p h =
+    copy_follows m.copy link lives unit manager t p h
+report_follows (report.Audited rows) m link lives unit manager t p h =
+    remark_follows (Audited t.asking m.table.rows t.notices) link lives unit manager t p h
+report_follows _ m link lives unit manager t p h = ([], h)
+
+-- reports, each with the copy or table that it tells
+pub reports_follow : (rs : List Report) (m : Manager) (link : Link) (lives : ℕ)
     (unit : Option Onu) (manager : Option Manager) (t : Told) (p : Channel)
     → Like link lives unit manager t p
-    → Happens (flat_map (reported copy) rs) link lives unit manager t p
-reports_follow [] copy link lives unit manager t p h = ([], h)
-reports_follow (r ∷ rs) copy link lives unit manager t p h =
-    then_happens (reported copy r) (flat_map (reported copy) rs) link lives lives unit unit manager
-    manager t p (report_follows r copy link lives unit manager t p h)
-    (λ q k. reports_follow rs copy (link_read (reported copy r) link) lives unit manager
-    (tell_all (reported copy r) t) q k)
+    → Happens (flat_map (report_told m) rs) link lives unit manager t p
+reports_follow [] m link lives unit manager t p h = ([], h)
+reports_follow (r ∷ rs) m link lives unit manager t p h =
+    then_happens (report_told m r) (flat_map (report_told m) rs) link lives lives unit unit manager
+    manager t p (report_follows r m link lives unit manager t p h)
+    (λ q k. reports_follow rs m (link_read (report_told m r) link) lives unit manager
+    (tell_all (report_told m r) t) q k)
 
 -- ---- what the manager does
 
@@ -145,21 +154,70 @@ cleared o link lives unit t p f = (
 
 reported_sends : (m : Manager) (o : Outcome) (link : Link) (lives : ℕ) (unit : Option Onu)
     (t : Told) (p : Channel) → OutcomeFollows m o → Like link lives unit (Some m) t p
-    → Happens (flat_map (reported o.manager.copy) o.manager.reports ++ flat_map sends o.sendings)
+    → Happens (flat_map (report_told o.manager) o.manager.reports ++ flat_map sends o.sendings)
     link lives unit (Some (record o.manager { reports = [] })) t p
 reported_sends m o link lives unit t p f h =
-    then_happens (flat_map (reported o.manager.copy) o.manager.reports)
+    then_happens (flat_map (report_told o.manager) o.manager.reports)
     (flat_map sends o.sendings) link lives lives unit unit (Some m)
     (Some (record o.manager { reports = [] })) t p
-    (reports_follow o.manager.reports o.manager.copy link lives unit (Some m) t p h)
+    (reports_follow o.manager.reports o.manager link lives unit (Some m) t p h)
     (λ q k. cleared o.manager _ lives unit _ q (f _ lives unit _ q k))
+
+-- ---- notices
+
+-- nothing of the history asks how many notices were counted
+like_counting : (notices : List Alarm) (link : Link) (lives : ℕ) (unit : Option Onu)
+    (manager : Option Manager) (t : Told) (p : Channel) → Like link lives unit manager t p
+    → Like link lives unit manager (record t { notices = notices }) p
+like_counting notices link lives unit manager t p h = record {
+  packets = h.packets;
+  ways = h.ways;
+  lives_are = h.lives_are;
+  drawn = h.drawn;
+  history = h.history;
+  unit_is = h.unit_is;
+  manager_is = h.manager_is;
+}
+
+-- notices that the manager takes are no moves
+notices_follow : (ns : List Alarm) (link : Link) (lives : ℕ) (unit : Option Onu)
+    (manager : Option Manager) (t : Told) (p : Channel) → Like link lives unit manager t p
+    → Happens (map NoticeTaken ns) link lives unit manager t p
+notices_follow [] link lives unit manager t p h = ([], h)
+notices_follow (a ∷ ns) link lives unit manager t p h =
+    notices_follow ns link lives unit manager (record t { notices = t.notices ++ a ∷ [] }) p
+    (like_counting (t.notices ++ a ∷ []) link lives unit manager t p h)
+
+-- what happens with an outcome after the replies that were taken
+abbrev pub rest_of : Outcome → List Happening
+rest_of o =
+    map NoticeTaken o.noticed
+    ++ (flat_map (report_told o.manager) o.manager.reports ++ flat_map sends o.sendings)
+
+noticed_sends : (m : Manager) (o : Outcome) (link : Link) (lives : ℕ) (unit : Option Onu)
+    (t : Told) (p : Channel) → OutcomeFollows m o → Like link lives unit (Some m) t p
+    → Happens (rest_of o) link lives unit (Some (record o.manager { reports = [] })) t p
+noticed_sends m o link lives unit t p f h =
+    then_happens (map NoticeTaken o.noticed)
+    (flat_map (report_told o.manager) o.manager.reports ++ flat_map sends o.sendings) link lives
+    lives unit unit (Some m) (Some (record o.manager { reports = [] })) t p
+    (notices_follow o.noticed link lives unit (Some m) t p h)
+    (λ q k. reported_sends m o _ lives unit _ q f k)
 
 -- what happens with an outcome
 abbrev pub deeds_of : Outcome → List Happening
 deeds_of o =
     map ReplyTaken o.taken
-    ++ flat_map (reported o.manager.copy) o.manager.reports
+    ++ map NoticeTaken o.noticed
+    ++ flat_map (report_told o.manager) o.manager.reports
     ++ flat_map sends o.sendings
+
+pub replies_and_rest : (o : Outcome) → deeds_of o ≡ map ReplyTaken o.taken ++ rest_of o
+replies_and_rest o =
+    append_assoc (map ReplyTaken o.taken ++ map NoticeTaken o.noticed)
+    (flat_map (report_told o.manager) o.manager.reports) (flat_map sends o.sendings)
+    ∙ append_assoc (map ReplyTaken o.taken) (map NoticeTaken o.noticed)
+    (flat_map (report_told o.manager) o.manager.reports ++ flat_map sends o.sendings)
 
 -- with what happened before, once the replies that were taken are told
 pub outcome_happens : (first : List Happening) (m : Manager) (o : Outcome) (link : Link)
@@ -168,12 +226,8 @@ pub outcome_happens : (first : List Happening) (m : Manager) (o : Outcome) (link
     → Happens (first ++ deeds_of o) link lives unit (Some (record o.manager { reports = [] })) t p
 outcome_happens first m o link lives unit t p one f =
     subst (λ hs. Happens hs link lives unit (Some (record o.manager { reports = [] })) t p)
-    (append_assoc first (map ReplyTaken o.taken)
-    (flat_map (reported o.manager.copy) o.manager.reports ++ flat_map sends o.sendings)
-    ∙ ap (λ hs. first ++ hs)
-    (sym (append_assoc (map ReplyTaken o.taken)
-    (flat_map (reported o.manager.copy) o.manager.reports) (flat_map sends o.sendings))))
-    (then_happens (first ++ map ReplyTaken o.taken)
-    (flat_map (reported o.manager.copy) o.manager.reports ++ flat_map sends o.sendings) link lives
-    lives unit unit (Some m) (Some (record o.manager { reports = [] })) t p one
-    (λ q k. reported_sends m o _ lives unit _ q f k))
+    (append_assoc first (map ReplyTaken o.taken) (rest_of o)
+    ∙ ap (λ hs. first ++ hs) (sym (replies_and_rest o)))
+    (then_happens (first ++ map ReplyTaken o.taken) (rest_of o) link lives lives unit unit (Some m)
+    (Some (record o.manager { reports = [] })) t p one
+    (λ q k. noticed_sends m o _ lives unit _ q f k))

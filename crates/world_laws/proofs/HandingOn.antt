@@ -13,6 +13,8 @@ use Rattle.message_spec.specs.declared.Request.TheVariants as request
 use Rattle.frame_spec.specs.Baseline.{fault_of, packet_frame}
 use Rattle.frame_spec.specs.Widths.{filled}
 use Rattle.upload_spec.specs.Pieces.{Copy}
+use Rattle.alarm_spec.specs.Alarms.{Alarm as AlarmOf}
+use Rattle.alarm_spec.specs.declared.TheConstants.{BITMAP_BYTES}
 use Rattle.link_spec.specs.declared.Direction.{Direction}
 use Rattle.link_spec.specs.declared.Direction.TheVariants.{Down, Up}
 use Rattle.link_spec.specs.Link.{Sent, allowed}
@@ -22,23 +24,26 @@ use Rattle.lane_spec.specs.declared.LaneTick.{LaneTick}
 use Rattle.lane_spec.specs.declared.LaneTick.TheVariants.{Quiet, Repeat, GaveUp}
 use Rattle.unit_spec.specs.declared.Did.{Did}
 use Rattle.unit_spec.specs.declared.Did.TheVariants as did
+use Rattle.unit_spec.specs.declared.Noticed.{Noticed}
+use Rattle.unit_spec.specs.declared.Noticed.TheVariants as noticed
 use Rattle.unit_spec.specs.Onu.{Onu, onu_received}
+use Rattle.unit_spec.specs.Noticing.{Noticing, onu_sensed, onu_alarmed}
 use Rattle.manager_spec.specs.declared.Refusal.{Refusal}
 use Rattle.manager_spec.specs.declared.Report.{Report}
 use Rattle.manager_spec.specs.declared.Report.TheVariants as report
 use Rattle.manager_spec.specs.Manager.{Manager, Sending, Outcome, lane_in, with_lane, command_sent, manager_started}
-use Rattle.manager_spec.specs.Resync.{waits_for}
-use Rattle.manager_spec.specs.Submitting.{Submission, unless_refused, probe_refusal, after_probe, submit_refusal, leaves_copy, leave_if, after_submit, check_refusal, after_check, resync_refusal, resync_begun, after_resync}
+use Rattle.manager_spec.specs.Jobs.{waits_for}
+use Rattle.manager_spec.specs.Submitting.{Submission, unless_refused, probe_refusal, after_probe, submit_refusal, leaves_copy, leave_if, after_submit, check_refusal, after_check, resync_refusal, resync_begun, after_resync, audit_refusal, audit_asked, after_audit}
 use Rattle.manager_spec.specs.Steps.{packet_dropped, after_packet, lane_ticked, tick_lane, after_tick}
-use Rattle.script_spec.specs.Script.{Header, Action, Probe, Reset, Get, Create, Set, Delete, Resync, Check, Deliver, Flow, NoiseUnit, NoiseOlt, Tick, CutUnit, CutOlt, StartUnit, StartOlt, IsAction}
-use Rattle.world_spec.specs.Happenings.{Happening, PacketCame, ReplyTaken, Reported}
-use Rattle.world_spec.specs.Ends.{Ends, Step, still, not_enabled, preceded, if_drawn, if_asked, goes_down, sends, reported, manager_did, submission_by, submission, manager_got, manager_ticks, unit_deed, unit_got, arrives_at, arrives, noise, unit_ticks, second, cut_unit, cut_manager, start_unit, start_manager}
+use Rattle.script_spec.specs.Script.{Header, Action, Probe, Reset, Get, Create, Set, Delete, Resync, Audit, Check, Deliver, Flow, NoiseUnit, NoiseOlt, Tick, Sense, Alarm, CutUnit, CutOlt, StartUnit, StartOlt, IsAction}
+use Rattle.world_spec.specs.Happenings.{Happening, PacketCame, ReplyTaken, NoticeTaken, Reported}
+use Rattle.world_spec.specs.Ends.{Ends, Step, still, not_enabled, preceded, if_drawn, if_asked, goes_down, sends, copy_told, report_told, notice_sent, unit_notices, manager_did, submission_by, submission, manager_got, manager_ticks, unit_deed, unit_got, arrives_at, arrives, noise, unit_ticks, second, cut_unit, cut_manager, start_unit, start_manager}
 use Rattle.world_spec.specs.Nodes.{Nodes, first_nodes, delivery_of, delivery, nodes_after_step, flow_from, oldest_fresh, flow, acted, next_event, step}
 use Rattle.world_spec.specs.History.{Told, first_told, tell, tell_all}
 use Rattle.world_laws.specs.Seen.{IsNewest, is_taking, AreHandedOn, HandOn, ScriptHandsOn}
-use Rattle.world_laws.proofs.Keeping.{IsQuiet, AreQuiet, both_quiet, KeepsLanes, leave_if_keeps, give_up_keeps, AreFirst, AreFor, taken_lanes, IsTaking, taking_is, takes_one, job_reports}
-use Rattle.world_laws.proofs.Manager.{freed_lane, meant_by, IsTaken, hearing_is, noise_heard}
-use Rattle.world_laws.proofs.Following.{deeds_of}
+use Rattle.world_laws.proofs.Keeping.{IsQuiet, AreQuiet, both_quiet, KeepsLanes, leave_if_keeps, give_up_keeps, AreFirst, AreFor, taken_lanes, IsTaking, taking_is, takes_one, takes_no_notice, job_reports, IsBeside, dropped_beside, is_beside}
+use Rattle.world_laws.proofs.Manager.{freed_lane, meant_by, untaken, IsTaken, hearing_is, noise_heard}
+use Rattle.world_laws.proofs.Following.{rest_of, deeds_of, replies_and_rest}
 use Rattle.world_laws.proofs.Lines.{IsFair}
 use Rattle.world_laws.proofs.Runs.{AllFair, all_fair}
 
@@ -92,57 +97,73 @@ silent_sends [] = λ taken t. tt
 silent_sends (s ∷ ss) = both_silent (sends s) (flat_map sends ss) (silent_sending s)
     (silent_sends ss)
 
-silent_reported : (r : Report) (copy : Option Copy) → IsQuiet r → Silent (reported copy r)
-silent_reported (report.Took reply) copy q = absurd q
-silent_reported (report.Synced entities counter) (Some copy) q = λ taken t. (tt, (tt, tt))
-silent_reported (report.Synced entities counter) None q = λ taken t. (tt, tt)
-silent_reported _ copy q = λ taken t. (tt, tt)
+silent_copy : (copy : Option Copy) → Silent (copy_told copy)
+silent_copy None = λ taken t. tt
+silent_copy (Some copy) = λ taken t. (tt, tt)
 
-silent_reports : (copy : Option Copy) (rs : List Report) → AreQuiet rs
-    → Silent (flat_map (reported copy) rs)
-silent_reports copy [] q = λ taken t. tt
-silent_reports copy (r ∷ rs) q = both_silent (reported copy r) (flat_map (reported copy) rs)
-    (silent_reported r copy q.0) (silent_reports copy rs q.1)
+silent_reported : (r : Report) (m : Manager) → IsQuiet r → Silent (report_told m r)
+silent_reported (report.Took reply) m q = absurd q
+silent_reported (report.Synced entities counter) m q = λ taken t. (tt, silent_copy m.copy false t)
+silent_reported (report.Audited rows) m q = λ taken t. (tt, (tt, tt))
+silent_reported _ m q = λ taken t. (tt, tt)
+
+silent_reports : (m : Manager) (rs : List Report) → AreQuiet rs
+    → Silent (flat_map (report_told m) rs)
+silent_reports m [] q = λ taken t. tt
+silent_reports m (r ∷ rs) q = both_silent (report_told m r) (flat_map (report_told m) rs)
+    (silent_reported r m q.0) (silent_reports m rs q.1)
+
+silent_noticed : (ns : List AlarmOf) → Silent (map NoticeTaken ns)
+silent_noticed [] = λ taken t. tt
+silent_noticed (n ∷ ns) = λ taken t. (tt, silent_noticed ns false (tell (NoticeTaken n) t))
+
+silent_rest : (o : Outcome) → AreQuiet o.manager.reports → Silent (rest_of o)
+silent_rest o q =
+    both_silent (map NoticeTaken o.noticed)
+    (flat_map (report_told o.manager) o.manager.reports ++ flat_map sends o.sendings)
+    (silent_noticed o.noticed)
+    (both_silent (flat_map (report_told o.manager) o.manager.reports) (flat_map sends o.sendings)
+    (silent_reports o.manager o.manager.reports q) (silent_sends o.sendings))
 
 silent_outcome : (o : Outcome) → AreQuiet o.manager.reports → Silent (deeds_of o)
-silent_outcome o q =
-    both_silent (map ReplyTaken o.taken ++ flat_map (reported o.manager.copy) o.manager.reports)
-    (flat_map sends o.sendings)
-    (both_silent (map ReplyTaken o.taken) (flat_map (reported o.manager.copy) o.manager.reports)
-    (silent_taken o.taken) (silent_reports o.manager.copy o.manager.reports q))
-    (silent_sends o.sendings)
+silent_outcome o q = subst Silent (sym (replies_and_rest o))
+    (both_silent (map ReplyTaken o.taken) (rest_of o) (silent_taken o.taken) (silent_rest o q))
 
 -- ---- a reply that is taken
 
 -- the first report hands the reply on that was taken last
-first_reported : (f : Frame) (copy : Option Copy) (rs : List Report) (t : Told) → AreFirst f rs
-    → IsNewest f t.history → AreHandedOn true (flat_map (reported copy) rs) t
-first_reported f copy [] t h k = tt
-first_reported f copy (report.Took reply ∷ rest) t h k =
-    (subst (λ x. IsNewest x t.history) (sym h.0) k, silent_reports copy rest h.1 false t)
-first_reported f copy (r ∷ rest) t h k = silent_reports copy (r ∷ rest) (tt, h) true t
+first_reported : (f : Frame) (m : Manager) (rs : List Report) (t : Told) → AreFirst f rs
+    → IsNewest f t.history → AreHandedOn true (flat_map (report_told m) rs) t
+first_reported f m [] t h k = tt
+first_reported f m (report.Took reply ∷ rest) t h k =
+    (subst (λ x. IsNewest x t.history) (sym h.0) k, silent_reports m rest h.1 false t)
+first_reported f m (r ∷ rest) t h k = silent_reports m (r ∷ rest) (tt, h) true t
 
 reply_handed : (probe : Bool) (f : Frame) (l : Priority) (i : ℕ) (s : Sent) (o : Outcome)
-    (t : Told) → o.taken ≡ taken_lanes probe l → AreFor probe f o.manager.reports
+    (t : Told) → o.taken ≡ taken_lanes probe l → o.noticed ≡ [] → AreFor probe f o.manager.reports
     → packet_frame s.bytes ≡ Some f → AreHandedOn false (PacketCame i s ∷ deeds_of o) t
-reply_handed true f l i s o t e q read =
+reply_handed true f l i s o t e none q read =
     (tt, silent_outcome o q false (tell (PacketCame i s) t))
-reply_handed false f l i s o t e q read =
-    subst
-    (λ ls. AreHandedOn false
+reply_handed false f l i s o t e none q read =
+    subst (λ hs. AreHandedOn false (PacketCame i s ∷ hs) t) (sym (replies_and_rest o))
+    (subst (λ ls. AreHandedOn false (PacketCame i s ∷ (map ReplyTaken ls ++ rest_of o)) t) (sym e)
+    (subst
+    (λ ns. AreHandedOn false
     (PacketCame i s
-    ∷ (map ReplyTaken ls ++ flat_map (reported o.manager.copy) o.manager.reports
-    ++ flat_map sends o.sendings)) t) (sym e) (
+    ∷ ReplyTaken l
+    ∷ (map NoticeTaken ns
+    ++ (flat_map (report_told o.manager) o.manager.reports ++ flat_map sends o.sendings))) t)
+    (sym none) (
       tt,
       (
         tt,
-        handed_then true (flat_map (reported o.manager.copy) o.manager.reports)
+        handed_then true (flat_map (report_told o.manager) o.manager.reports)
             (flat_map sends o.sendings) (tell (ReplyTaken l) (tell (PacketCame i s) t))
-            (first_reported f o.manager.copy o.manager.reports
+            (first_reported f o.manager o.manager.reports
             (tell (ReplyTaken l) (tell (PacketCame i s) t)) q read)
             (silent_sends o.sendings false _),
       ),
-    )
+    )))
 
 -- ---- steps
 
@@ -231,6 +252,10 @@ resync_silent : IsSilent after_resync
 unfolding after_resync
 resync_silent = λ m q. unless_silent (resync_refusal m) (resync_begun m) m q q
 
+audit_silent : IsSilent after_audit
+unfolding after_audit
+audit_silent = λ m q. unless_silent (audit_refusal m) (audit_asked m) m q q
+
 -- ---- packets and noise
 
 silent_deed : (d : Did) (reply : List ℕ) (before : Onu) (life : ℕ)
@@ -251,23 +276,25 @@ unit_hands first bytes (Some u) e t s c =
       cleared = c;
     }
 
-dropped_quiet : (m : Manager) → m.reports ≡ [] → AreQuiet (packet_dropped m).manager.reports
-dropped_quiet m e = subst (λ rs. AreQuiet (rs ++ report.Dropped ∷ [])) (sym e) (tt, tt)
+beside_quiet : (m : Manager) (o : Outcome) → m.reports ≡ [] → IsBeside m o
+    → AreQuiet o.manager.reports
+beside_quiet m o e k = kept_quiet m o.manager k.keeps (none_quiet m e)
 
 outcome_hands : (i : ℕ) (s : Sent) (o : Outcome) (m : Manager) (e : Ends) (t : Told)
-    → m.reports ≡ [] → (o ≡ packet_dropped m) ⊎ IsTaken s.bytes m o
+    → m.reports ≡ [] → (o ≡ untaken (packet_frame s.bytes) m) ⊎ IsTaken s.bytes m o
     → HandsOn (preceded (PacketCame i s ∷ []) (manager_did o e)) t
 outcome_hands i s o m e t none (inl drops) = record {
   handed = (
     tt,
-    silent_outcome o (subst (λ x. AreQuiet x.manager.reports) (sym drops) (dropped_quiet m none))
-        false (tell (PacketCame i s) t),
+    silent_outcome o (beside_quiet m o none (is_beside (packet_frame s.bytes) m o drops)) false
+        (tell (PacketCame i s) t),
   );
   cleared = cleared_as (record o.manager { reports = [] }) refl;
 }
 outcome_hands i s o m e t none (inr k) = record {
   handed = reply_handed probe k.frame l i s o t
       (ap (λ x. x.taken) k.is ∙ takes_one probe l meant taking.taken)
+      (ap (λ x. x.noticed) k.is ∙ takes_no_notice meant taking.noticed)
       (subst (AreFor probe k.frame)
       (sym (ap (λ x. x.manager.reports) k.is ∙ job_reports meant.manager))
       (taking.told (lane_reports l _ m ∙ none))) k.read;
@@ -337,7 +364,8 @@ noise_hands bytes None e t f c n = not_enabled_hands e t c
 noise_hands bytes (Some m) e t f c n =
     subst (λ o. HandsOn (preceded [] (manager_did o e)) t) (sym (noise_heard bytes m n))
     (record {
-      handed = silent_outcome (packet_dropped m) (dropped_quiet m (c m f)) false t;
+      handed = silent_outcome (packet_dropped m)
+          (beside_quiet m (packet_dropped m) (c m f) (dropped_beside m)) false t;
       cleared = cleared_as (record m { reports = [] }) refl;
     })
 
@@ -383,6 +411,19 @@ second_hands e t c =
       handed = handed_then false s.happenings r.happenings t one.handed two.handed;
       cleared = two.cleared;
     }
+
+-- ---- the unit notices something
+
+silent_notice : (o : Noticed) (packet : List ℕ) → Silent (notice_sent o packet)
+silent_notice noticed.NotAllowed packet = λ taken t. (tt, tt)
+silent_notice noticed.Same packet = λ taken t. tt
+silent_notice noticed.Sent packet = λ taken t. (tt, tt)
+
+notices_hand : (call : Onu → Noticing) (o : Option Onu) (e : Ends) (t : Told)
+    → IsCleared e.manager → HandsOn (unit_notices call o e) t
+notices_hand call None e t c = not_enabled_hands e t c
+notices_hand call (Some u) e t c =
+    record { handed = silent_notice (call u).noticed (call u).packet false t; cleared = c }
 
 -- ---- power
 
@@ -433,6 +474,8 @@ acted_hands (Delete lane entity) n t f c =
     (submit_silent lane entity request.Delete)
 acted_hands Resync n t f c =
     submission_hands after_resync n.ends.manager n.ends t refl c resync_silent
+acted_hands Audit n t f c =
+    submission_hands after_audit n.ends.manager n.ends t refl c audit_silent
 acted_hands Check n t f c =
     submission_hands after_check n.ends.manager n.ends t refl c check_silent
 acted_hands (Deliver number) n t f c = delivery_hands number n t c
@@ -441,6 +484,10 @@ acted_hands (NoiseUnit bytes) n t f c = unit_hands [] bytes n.ends.unit n.ends t
     (λ taken u. tt) c
 acted_hands (NoiseOlt bytes) n t f c = noise_hands bytes n.ends.manager n.ends t refl c f
 acted_hands Tick n t f c = second_hands n.ends t c
+acted_hands (Sense entity number value) n t f c = notices_hand
+    (onu_sensed entity number value) n.ends.unit n.ends t c
+acted_hands (Alarm entity bitmap) n t f c = notices_hand
+    (onu_alarmed entity (filled BITMAP_BYTES bitmap)) n.ends.unit n.ends t c
 acted_hands CutUnit n t f c = cut_unit_hands n.ends.unit n.ends t c
 acted_hands CutOlt n t f c = cut_manager_hands n.ends.manager n.ends t c
 acted_hands StartUnit n t f c = start_unit_hands n.ends.unit n.ends t c

@@ -1,13 +1,24 @@
 -- What in the manager's steps leaves its lanes alone, and which reports it adds.
-use Rattle.std.proofs.Common.{◌≡◌, ℕ, ◌==◌, Bool, true, false, List, [], ◌∷◌, ◌++◌, Option, Some, None, is_some, nat_le, ◌⊎◌, inl, inr, refl, sym, ap, subst, ◌∙◌, append_assoc}
+use Rattle.std.proofs.Common.{◌≡◌, ℕ, ◌==◌, Bool, true, false, List, [], ◌∷◌, ◌++◌, Option, Some, None, Result, Ok, Err, is_some, nat_le, ◌⊎◌, inl, inr, refl, sym, ap, subst, ◌∙◌, append_assoc}
 use Rattle.std.proofs.lemmas.List.{append-nil}
 use Rattle.omci_types.specs.declared.EntityId.{EntityId}
 use Rattle.omci_types.specs.declared.Frame.{Frame}
 use Rattle.omci_types.specs.declared.Priority.{Priority}
 use Rattle.omci_types.specs.declared.TheConstants.Code.{SUCCESS}
+use Rattle.message_spec.specs.declared.ContentsFault.{ContentsFault}
+use Rattle.message_spec.specs.declared.Message.{Message}
+use Rattle.message_spec.specs.declared.Message.TheVariants.{Asked, Answered, Told}
+use Rattle.message_spec.specs.declared.Notice.{Notice}
+use Rattle.message_spec.specs.declared.Notice.TheVariants as notices
 use Rattle.message_spec.specs.declared.Request.{Request}
 use Rattle.message_spec.specs.declared.Response.{Response}
 use Rattle.message_spec.specs.declared.Response.TheVariants as response
+use Rattle.message_spec.specs.Reading.{message_of}
+use Rattle.alarm_spec.specs.declared.BadRow.{BadRow}
+use Rattle.alarm_spec.specs.declared.BadRow.TheVariants as bad
+use Rattle.alarm_spec.specs.declared.TakenAlarm.{TakenAlarm}
+use Rattle.alarm_spec.specs.declared.TakenAlarm.TheVariants as taken
+use Rattle.alarm_spec.specs.Table.{Table, take_answer, after_take, gathered, row_fault, after_row, begun}
 use Rattle.upload_spec.specs.declared.PieceFault.{PieceFault}
 use Rattle.upload_spec.specs.declared.PieceFault.TheVariants as fault
 use Rattle.upload_spec.specs.Pieces.{Copy}
@@ -19,14 +30,21 @@ use Rattle.manager_spec.specs.declared.Phase.{Phase}
 use Rattle.manager_spec.specs.declared.Phase.TheVariants as phase
 use Rattle.manager_spec.specs.declared.ResyncReason.{ResyncReason}
 use Rattle.manager_spec.specs.declared.ResyncReason.TheVariants as reason
+use Rattle.manager_spec.specs.declared.AuditReason.{AuditReason}
+use Rattle.manager_spec.specs.declared.AuditReason.TheVariants as audit
+use Rattle.manager_spec.specs.declared.Job.{Job}
+use Rattle.manager_spec.specs.declared.Job.TheVariants as jobs
 use Rattle.manager_spec.specs.declared.Report.{Report}
 use Rattle.manager_spec.specs.declared.Report.TheVariants as report
-use Rattle.manager_spec.specs.Manager.{Stage, Probing, Asking, Gathering, Manager, Outcome, and_then, with_report, phase_left, leave_step, step_lost}
+use Rattle.manager_spec.specs.Manager.{Stage, Probing, Asking, Gathering, AskingAlarms, GatheringRows, Manager, Outcome, sends_nothing, and_then, with_report, phase_left, leave_step, step_lost}
 use Rattle.manager_spec.specs.Copying.{followed_if, followed}
-use Rattle.manager_spec.specs.Resync.{with_job, resync_failed, done_if_counted, gather_unless_all, gather_on, piece_by, send_wish, is_free, wish_in, Wish, job_goes_on}
+use Rattle.manager_spec.specs.Resync.{with_job, resync_failed, done_if_counted, gather_unless_all, gather_on, piece_by}
+use Rattle.manager_spec.specs.Audit.{with_table, audit_failed, rows_unless_all, rows_on, row_by, audit_lost, alarm_as, alarm_came, notice_came}
+use Rattle.manager_spec.specs.Jobs.{job_of, lost_by, job_lost, send_wish, is_free, wish_in, Wish, job_goes_on}
 use Rattle.manager_spec.specs.Submitting.{leave_if}
-use Rattle.manager_spec.specs.Steps.{code_of, response_of, followed_by, expected_counter, compared, counters_compared, first_value, checked_if, checked_by, upload_by, piece_by_reply, job_by, taken_as, loss_seen}
+use Rattle.manager_spec.specs.Steps.{code_of, response_of, followed_by, expected_counter, compared, counters_compared, first_value, checked_if, checked_by, upload_by, piece_by_reply, alarms_by, row_by_reply, job_by, taken_as, packet_dropped, not_taken, loss_seen}
 use Rattle.world_laws.proofs.Likeness.{SameLanes}
+use Rattle.world_laws.proofs.Manager.{untaken}
 
 -- ---- reports that hand no reply on
 
@@ -162,16 +180,78 @@ reply_keeps (Some (response.UploadNext piece)) expected next copy f m =
     piece_keeps (piece_fault piece copy) expected next piece copy m
 reply_keeps _ expected next copy f m = keeps_reported (report.Freed f.tci) m tt
 
+-- what isn't a lane or a report may change
+pub keeps_others : (m n : Manager) → SameLanes m n → n.reports ≡ m.reports → KeepsLanes m n
+keeps_others m n s e = record {
+  same = s;
+  added = [];
+  quiet = tt;
+  reports = e ∙ sym (append-nil m.reports);
+}
+
+audit_fails : (why : AuditReason) (m : Manager) → KeepsLanes m (audit_failed why m)
+audit_fails why m = record {
+  same = record { low = refl; high = refl };
+  added = report.AuditFailed why ∷ [];
+  quiet = (tt, tt);
+  reports = refl;
+}
+
+rows_unless_keep : (all : Bool) (expected next : ℕ) (m : Manager)
+    → KeepsLanes m (rows_unless_all all expected next m)
+rows_unless_keep true expected next m = record {
+  same = record { low = refl; high = refl };
+  added = _;
+  quiet = (tt, tt);
+  reports = refl;
+}
+rows_unless_keep false expected next m =
+    keeps_others m _ (record { low = refl; high = refl }) refl
+
+rows_keep : (expected next : ℕ) (t : Table) (m : Manager)
+    → KeepsLanes m (rows_on expected next (with_table t m))
+unfolding rows_on
+rows_keep expected next t m =
+    keeps_both m (with_table t m) _
+    (keeps_others m (with_table t m) (record { low = refl; high = refl }) refl)
+    (rows_unless_keep (nat_le expected next) expected next (with_table t m))
+
+row_keeps : (o : Option BadRow) (expected next : ℕ) (row : List ℕ) (m : Manager)
+    → KeepsLanes m (row_by o expected next row m)
+row_keeps None expected next row m = rows_keep expected _ (after_row row m.table) m
+row_keeps (Some bad.Empty) expected next row m = audit_fails audit.Empty m
+row_keeps (Some (bad.Repeated one)) expected next row m = audit_fails (audit.Repeated one) m
+
+alarms_keep : (r : Option Response) (f : Frame) (m : Manager) → KeepsLanes m (alarms_by r f m)
+alarms_keep (Some (response.Alarms count)) f m = rows_keep count 0 (begun m.table) m
+alarms_keep _ f m = keeps_reported (report.Freed f.tci) m tt
+
+row_reply_keeps : (r : Option Response) (expected next : ℕ) (f : Frame) (m : Manager)
+    → KeepsLanes m (row_by_reply r expected next f m)
+row_reply_keeps (Some (response.AlarmsNext row)) expected next f m =
+    row_keeps (row_fault row (gathered m.table)) expected next row m
+row_reply_keeps _ expected next f m = keeps_reported (report.Freed f.tci) m tt
+
 job_keeps : (job : Option Stage) (r : Option Response) (f : Frame) (m : Manager)
     → KeepsLanes m (job_by job r f m)
 job_keeps None r f m = keeps_reported (report.Freed f.tci) m tt
 job_keeps (Some (Probing high low)) r f m = keeps_reported (report.Freed f.tci) m tt
 job_keeps (Some Asking) r f m = upload_keeps r f m
 job_keeps (Some (Gathering expected next copy)) r f m = reply_keeps r expected next copy f m
+job_keeps (Some AskingAlarms) r f m = alarms_keep r f m
+job_keeps (Some (GatheringRows expected next)) r f m = row_reply_keeps r expected next f m
+
+lost_by_keeps : (job : Job) (tci : ℕ) (m : Manager) → KeepsLanes m (lost_by job tci m)
+lost_by_keeps jobs.Resync tci m = failed_keeps (reason.GaveUp tci) m
+lost_by_keeps jobs.Audit tci m = audit_fails (audit.GaveUp tci) m
+
+job_lost_keeps : (job : Option Stage) (tci : ℕ) (m : Manager) → KeepsLanes m (job_lost job tci m)
+job_lost_keeps None tci m = keeps_itself m
+job_lost_keeps (Some stage) tci m = lost_by_keeps (job_of stage) tci m
 
 pub loss_keeps : (waits changes : Bool) (tci : ℕ) (m : Manager)
     → KeepsLanes m (loss_seen waits changes tci m)
-loss_keeps true changes tci m = failed_keeps (reason.GaveUp tci) m
+loss_keeps true changes tci m = job_lost_keeps m.job tci m
 loss_keeps false true tci m = leave_keeps m
 loss_keeps false false tci m = keeps_itself m
 
@@ -261,17 +341,20 @@ pub record IsTaking (probe : Bool) (f : Frame) (l : Priority) (m : Manager)
     (o : Outcome) : Type 0 where
   pub same : SameLanes m o.manager
   pub taken : o.taken ≡ taken_lanes probe l
+  pub noticed : o.noticed ≡ []
   pub sends : o.sendings ≡ []
   pub told : m.reports ≡ [] → AreFor probe f o.manager.reports
 
 abbrev after_taking : Bool → Priority → Manager → Outcome
-after_taking probe l n = record { manager = n; taken = taken_lanes probe l; sendings = [] }
+after_taking probe l n =
+    record { manager = n; taken = taken_lanes probe l; noticed = []; sendings = [] }
 
 taking_quiet : (probe : Bool) (f : Frame) (l : Priority) (m n : Manager) → KeepsLanes m n
     → IsTaking probe f l m (after_taking probe l n)
 taking_quiet probe f l m n k = record {
   same = k.same;
   taken = refl;
+  noticed = refl;
   sends = refl;
   told = λ e. subst (AreFor probe f) (sym (k.reports ∙ ap (λ rs. rs ++ k.added) e))
       (quiet_for probe f k.added k.quiet);
@@ -283,6 +366,7 @@ taking_answers f l m n (inl k) = taking_quiet false f l m n k
 taking_answers f l m n (inr k) = record {
   same = record { low = k.same.low; high = k.same.high };
   taken = refl;
+  noticed = refl;
   sends = refl;
   told = λ e. subst (AreFirst f)
       (sym (k.reports ∙ ap (λ rs. (rs ++ report.Took f ∷ []) ++ k.added) e)) (refl, k.quiet);
@@ -321,6 +405,18 @@ takes_one probe l a e =
     ∙ ap (λ ls. taken_lanes probe l ++ ls) (job_takes a.manager)
     ∙ append-nil (taken_lanes probe l)
 
+wish_notices : (free : Bool) (w : Option Wish) (m : Manager) → (send_wish free w m).noticed ≡ []
+wish_notices free None m = refl
+wish_notices false (Some w) m = refl
+wish_notices true (Some w) m = refl
+
+-- and no notice
+pub takes_no_notice : (a : Outcome) → a.noticed ≡ [] → (and_then a job_goes_on).noticed ≡ []
+unfolding job_goes_on
+takes_no_notice a e =
+    ap (λ ns. ns ++ (job_goes_on a.manager).noticed) e
+    ∙ wish_notices (is_free a.manager.low) (wish_in a.manager.job) a.manager
+
 wish_reports : (free : Bool) (w : Option Wish) (m : Manager)
     → (send_wish free w m).manager.reports ≡ m.reports
 wish_reports free None m = refl
@@ -331,3 +427,78 @@ wish_reports true (Some w) m = refl
 pub job_reports : (m : Manager) → (job_goes_on m).manager.reports ≡ m.reports
 unfolding job_goes_on
 job_reports m = wish_reports (is_free m.low) (wish_in m.job) m
+
+-- ---- a packet that is no reply
+
+-- no reply is taken, nothing is sent, and none is handed on
+pub record IsBeside (m : Manager) (o : Outcome) : Type 0 where
+  pub keeps : KeepsLanes m o.manager
+  pub taken : o.taken ≡ []
+  pub sends : o.sendings ≡ []
+
+beside_silent : (m n : Manager) → KeepsLanes m n → IsBeside m (sends_nothing n)
+beside_silent m n k = record { keeps = k; taken = refl; sends = refl }
+
+-- an audit that runs may end
+audit_lost_keeps : (job : Option Stage) (why : AuditReason) (m : Manager)
+    → KeepsLanes m (audit_lost job why m)
+audit_lost_keeps None why m = keeps_itself m
+audit_lost_keeps (Some (Probing high low)) why m = keeps_itself m
+audit_lost_keeps (Some Asking) why m = keeps_itself m
+audit_lost_keeps (Some (Gathering expected next copy)) why m = keeps_itself m
+audit_lost_keeps (Some AskingAlarms) why m = audit_fails why m
+audit_lost_keeps (Some (GatheringRows expected next)) why m = audit_fails why m
+
+lost_beside : (r : Report) (why : AuditReason) (m : Manager) → IsQuiet r
+    → IsBeside m (sends_nothing (audit_lost m.job why (with_report r m)))
+lost_beside r why m q = beside_silent m _
+    (keeps_both m (with_report r m) _ (keeps_reported r m q)
+    (audit_lost_keeps m.job why (with_report r m)))
+
+alarm_beside : (a : TakenAlarm) (one : EntityId) (bitmap : List ℕ) (number : ℕ) (m : Manager)
+    → IsBeside m (alarm_as a one bitmap number m)
+alarm_beside taken.Unaudited one bitmap number m =
+    beside_silent m _ (keeps_reported (report.AlarmUnaudited number) m tt)
+alarm_beside taken.Repeat one bitmap number m =
+    beside_silent m _ (keeps_reported (report.AlarmRepeat number) m tt)
+alarm_beside (taken.Gap want have) one bitmap number m =
+    lost_beside (report.AlarmGap want have) (audit.Gap want have) m tt
+alarm_beside taken.Overflow one bitmap number m =
+    lost_beside (report.AlarmOverflow number) audit.Overflow m tt
+alarm_beside taken.Taken one bitmap number m =
+    record { keeps = keeps_reported (report.AlarmTaken number) m tt; taken = refl; sends = refl }
+
+came_beside : (one : EntityId) (bitmap : List ℕ) (number : ℕ) (m : Manager)
+    → IsBeside m (alarm_came one bitmap number m)
+unfolding alarm_came
+came_beside one bitmap number m =
+    let n = with_table (after_take one bitmap number m.table) m in
+    let k = alarm_beside (take_answer number m.table) one bitmap number n in
+    record {
+      keeps = keeps_both m n _ (keeps_others m n (record { low = refl; high = refl }) refl) k.keeps;
+      taken = k.taken;
+      sends = k.sends;
+    }
+
+notice_beside : (one : EntityId) (notice : Notice) (f : Frame) (m : Manager)
+    → IsBeside m (notice_came one notice f m)
+notice_beside one (notices.Alarm bitmap number) f m = came_beside one bitmap number m
+notice_beside one (notices.Change mask values) f m =
+    beside_silent m _ (keeps_reported (report.Change f) m tt)
+
+pub dropped_beside : (m : Manager) → IsBeside m (packet_dropped m)
+dropped_beside m = beside_silent m _ (keeps_reported report.Dropped m tt)
+
+not_taken_beside : (r : Result Message ContentsFault) (f : Frame) (m : Manager)
+    → IsBeside m (not_taken r f m)
+not_taken_beside (Ok (Told tci entity notice)) f m = notice_beside entity notice f m
+not_taken_beside (Ok (Asked tci entity r)) f m = dropped_beside m
+not_taken_beside (Ok (Answered tci entity r)) f m = dropped_beside m
+not_taken_beside (Err fault) f m = dropped_beside m
+
+untaken_beside : (o : Option Frame) (m : Manager) → IsBeside m (untaken o m)
+untaken_beside None m = dropped_beside m
+untaken_beside (Some f) m = not_taken_beside (message_of f) f m
+
+pub is_beside : (o : Option Frame) (m : Manager) (a : Outcome) → a ≡ untaken o m → IsBeside m a
+is_beside o m a e = subst (IsBeside m) (sym e) (untaken_beside o m)

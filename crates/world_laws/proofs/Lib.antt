@@ -3,7 +3,7 @@ mod Reading
 mod Unit
 pub mod Likeness
 pub mod Keeping
-mod Manager
+pub mod Manager
 mod Following
 mod Sending
 mod Ticks

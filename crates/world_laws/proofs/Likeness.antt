@@ -23,13 +23,13 @@ tci_at l place = tci_of l (place_number place)
 -- ---- packets
 
 -- A packet on the link, and the command that the history gives it. A request is one of the packets
--- that its command sends each time.
+-- that its command sends each time. A notice has the TCI 0 and no command.
 abbrev pub IsPacket : Sent → ℕ → LinkPacket → Type 0
 IsPacket s name (RequestOf l t) = (s.direction ≡ Down) × (packet_tci s.bytes ≡ tci_at l t.place) ×
     (name ≡ t.id) × Contains t.packets s.bytes
 IsPacket s name (ReplyTo l t r) =
     (s.direction ≡ Up) × (packet_tci s.bytes ≡ tci_at l t.place) × (name ≡ t.id) × (s.bytes ≡ r)
-IsPacket s name Unasked = ⊥
+IsPacket s name Unasked = (s.direction ≡ Up) × (packet_tci s.bytes ≡ 0) × (name ≡ 0)
 
 abbrev pub ArePackets : List Sent → List ℕ → List LinkPacket → Type 0
 ArePackets [] [] [] = Unit {0}

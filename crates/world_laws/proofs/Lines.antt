@@ -6,34 +6,38 @@ use Rattle.omci_types.specs.declared.Priority.{Priority}
 use Rattle.omci_types.specs.declared.Priority.TheVariants.{Low, High}
 use Rattle.tci_spec.specs.Tci.{IsNumber, priority_of, packet_tci}
 use Rattle.message_spec.specs.declared.Request.TheVariants as request
-use Rattle.frame_spec.specs.Baseline.{fault_of}
+use Rattle.frame_spec.specs.Baseline.{fault_of, packet_frame}
 use Rattle.frame_spec.specs.Widths.{filled}
-use Rattle.script_spec.specs.Script.{Action, Probe, Reset, Get, Create, Set, Delete, Resync, Check, Deliver, Flow, NoiseUnit, NoiseOlt, Tick, CutUnit, CutOlt, StartUnit, StartOlt}
+use Rattle.script_spec.specs.Script.{Action, Probe, Reset, Get, Create, Set, Delete, Resync, Audit, Check, Deliver, Flow, NoiseUnit, NoiseOlt, Tick, Sense, Alarm, CutUnit, CutOlt, StartUnit, StartOlt}
 use Rattle.link_spec.specs.declared.Direction.{Direction}
 use Rattle.link_spec.specs.declared.Direction.TheVariants.{Down, Up}
 use Rattle.link_spec.specs.Link.{Sent, Link, Ways, way_in, way_of, lane_of, is_young, may_come, if_may_come, allowed_one, allowed, count, delivered_on}
 use Rattle.lane_spec.specs.Command.{sync_entity, is_probe}
 use Rattle.lane_spec.specs.Lane.{Waiting}
 use Rattle.manager_spec.specs.Manager.{Manager, Outcome, lane_in, manager_started}
-use Rattle.manager_spec.specs.Resync.{job_goes_on}
+use Rattle.manager_spec.specs.Jobs.{job_goes_on}
 use Rattle.manager_spec.specs.Steps.{packet_dropped, after_packet}
+use Rattle.alarm_spec.specs.declared.TheConstants.{BITMAP_BYTES}
+use Rattle.unit_spec.specs.declared.Noticed.{Noticed}
+use Rattle.unit_spec.specs.declared.Noticed.TheVariants as noticed
 use Rattle.unit_spec.specs.Onu.{Onu, onu_started}
+use Rattle.unit_spec.specs.Noticing.{Noticing, onu_sensed, onu_alarmed}
 use Rattle.moves_spec.specs.Channel.{Transaction, place_number, LinkPacket, RequestOf, ReplyTo, Unasked, Channel, lane_view}
-use Rattle.moves_spec.specs.Moves.{Move, UnitStarts, ManagerStarts, may_go_down, may_go_up, after_moves}
+use Rattle.moves_spec.specs.Moves.{Move, Notify, UnitStarts, ManagerStarts, may_go_down, may_go_up, after_moves}
 use Rattle.moves_laws.proofs.Numbers.{number_at_first, place_is_number}
 use Rattle.world_spec.specs.Happenings.{PacketCame, ReplyTaken}
-use Rattle.world_spec.specs.Ends.{Step, preceded, manager_did, manager_got, unit_did, unit_got, arrives_at, arrives, noise, cut_unit, cut_manager, start_unit, start_manager}
+use Rattle.world_spec.specs.Ends.{Step, preceded, manager_did, manager_got, unit_did, unit_got, notice_sent, unit_notices, arrives_at, arrives, noise, cut_unit, cut_manager, start_unit, start_manager}
 use Rattle.world_spec.specs.Nodes.{Nodes, delivery_of, delivery, nodes_after_step, goes_on, flow_from, oldest_fresh, flow, acted, next_event, step}
-use Rattle.world_spec.specs.History.{Told, tell_all}
-use Rattle.world_laws.proofs.Tcis.{lane_of_tci}
-use Rattle.world_laws.proofs.Likeness.{tci_at, IsPacket, same_length, at_place, AreWays, Like, some_manager, some_unit, Follows, like_unmanaged}
-use Rattle.world_laws.proofs.Unit.{noise_received}
-use Rattle.world_laws.proofs.Keeping.{taken_lanes, IsTaking, taking_is, takes_one}
-use Rattle.world_laws.proofs.Manager.{freed_lane, meant_by, taken_by, IsTaken, hearing_is, noise_heard}
+use Rattle.world_spec.specs.History.{Told, drawn_in, tell_all}
+use Rattle.world_laws.proofs.Tcis.{lane_of_tci, some_tci}
+use Rattle.world_laws.proofs.Likeness.{tci_at, IsPacket, same_length, one_more, at_place, AreWays, lane_like, busy, like_same_kept, Like, some_manager, some_unit, Follows, like_unmanaged}
+use Rattle.world_laws.proofs.Unit.{noise_received, IsNoticing, sensed_is, alarmed_is}
+use Rattle.world_laws.proofs.Keeping.{taken_lanes, IsTaking, taking_is, takes_one, IsBeside, is_beside}
+use Rattle.world_laws.proofs.Manager.{freed_lane, meant_by, taken_by, IsTaken, untaken, hearing_is, noise_heard}
 use Rattle.world_laws.proofs.Following.{Happens, then_happens, sends_none, both_follow, outcome_happens}
-use Rattle.world_laws.proofs.Turns.{Rests, StepFollows, no_step, not_enabled_step, own_follows, probe_follows, submit_follows, check_follows, resync_follows, job_follows, second_follows}
+use Rattle.world_laws.proofs.Turns.{Rests, StepFollows, no_step, not_enabled_step, own_follows, probe_follows, submit_follows, check_follows, resync_follows, audit_follows, job_follows, second_follows}
 use Rattle.world_laws.proofs.Arrivals.{name_is_at, came_told, Stands, unit_follows}
-use Rattle.world_laws.proofs.Taking.{Returns, dropped_up, told_taken, taken_up}
+use Rattle.world_laws.proofs.Taking.{Tells, notice_up, Returns, dropped_up, told_taken, taken_up}
 
 -- ---- what may come
 
@@ -66,18 +70,24 @@ may_down l place i s link p w n d e may =
     ap (λ x. nat_le x i && is_young i (length (lane_view l p).shared.packets)) (sym floor)
     ∙ ap (λ x. nat_le (way_of s link.ways).floor i && is_young i x) (view_length l p ∙ sym n) ∙ may
 
-pub may_up : (l : Priority) (place i : ℕ) (s : Sent) (link : Link) (p : Channel)
+may_up_in : (l : Priority) (i : ℕ) (s : Sent) (link : Link) (p : Channel)
     → AreWays link.ways p.low p.high → count link ≡ length p.shared.packets
-    → s.direction ≡ Up → packet_tci s.bytes ≡ tci_at l place → may_come i (way_of s link.ways)
+    → s.direction ≡ Up → lane_of s.bytes ≡ l → may_come i (way_of s link.ways)
     (count link) ≡ true → may_go_up i (lane_view l p) ≡ true
-may_up l place i s link p w n d e may =
-    let lane : lane_of s.bytes ≡ l = ap priority_of e ∙ lane_of_tci l (place_number place)
-    (place_is_number place) in
+may_up_in l i s link p w n d lane may =
     let floor : (way_of s link.ways).floor ≡ (lane_view l p).lane.floor_up =
     ap (λ x. (way_in x (lane_of s.bytes) link.ways).floor) d
     ∙ ap (λ x. (way_in Up x link.ways).floor) lane ∙ floor_up_is l link.ways p w in
     ap (λ x. nat_le x i && is_young i (length (lane_view l p).shared.packets)) (sym floor)
     ∙ ap (λ x. nat_le (way_of s link.ways).floor i && is_young i x) (view_length l p ∙ sym n) ∙ may
+
+pub may_up : (l : Priority) (place i : ℕ) (s : Sent) (link : Link) (p : Channel)
+    → AreWays link.ways p.low p.high → count link ≡ length p.shared.packets
+    → s.direction ≡ Up → packet_tci s.bytes ≡ tci_at l place → may_come i (way_of s link.ways)
+    (count link) ≡ true → may_go_up i (lane_view l p) ≡ true
+may_up l place i s link p w n d e may =
+    may_up_in l i s link p w n d
+    (ap priority_of e ∙ lane_of_tci l (place_number place) (place_is_number place)) may
 
 -- ---- a packet comes to the unit
 
@@ -127,17 +137,25 @@ reply_arrives l tr i s f w m n t p h e a waits same =
     k : IsTaking probe f l x meant
     k = taking_is w.command.purpose l w.command f x
 
+-- it comes, and is no reply that a lane waits for
+beside_arrives : (i : ℕ) (s : Sent) (o : Outcome) (m : Manager) (n : Nodes) (t : Told)
+    (p : Channel) → IsBeside m o
+    → Follows (delivered_on i s n.link) n.ends.lives n.ends.unit (Some m) (came_told i s t) p
+    → StepFollows (preceded (PacketCame i s ∷ []) (manager_did o n.ends)) n t p
+beside_arrives i s o m n t p k came =
+    outcome_happens (PacketCame i s ∷ []) m o n.link n.ends.lives n.ends.unit t p
+    (subst
+    (λ ls. Happens (PacketCame i s ∷ map ReplyTaken ls) n.link n.ends.lives n.ends.unit (Some m) t
+    p) (sym k.taken) came) (sends_none m o k.keeps.same k.sends)
+
 outcome_arrives : (l : Priority) (tr : Transaction) (i : ℕ) (s : Sent) (o : Outcome) (m : Manager)
     (n : Nodes) (t : Told) (p : Channel) → Rests n t p → n.ends.manager ≡ Some m
-    → Returns l tr i s p → (o ≡ packet_dropped m) ⊎ IsTaken s.bytes m o
+    → Returns l tr i s p → (o ≡ untaken (packet_frame s.bytes) m) ⊎ IsTaken s.bytes m o
     → StepFollows (preceded (PacketCame i s ∷ []) (manager_did o n.ends)) n t p
 outcome_arrives l tr i s o m n t p h e a (inl drops) =
-    subst (λ x. StepFollows (preceded (PacketCame i s ∷ []) (manager_did x n.ends)) n t p)
-    (sym drops)
-    (outcome_happens (PacketCame i s ∷ []) m (packet_dropped m) n.link n.ends.lives n.ends.unit t p
+    beside_arrives i s o m n t p (is_beside (packet_frame s.bytes) m o drops)
     (dropped_up l tr i s n.link n.ends.lives n.ends.unit m t p a
     (subst (λ x. Like n.link n.ends.lives n.ends.unit x t p) e h))
-    (sends_none m (packet_dropped m) (record { low = refl; high = refl }) refl))
 outcome_arrives l tr i s o m n t p h e a (inr k) =
     let lane : priority_of k.frame.tci ≡ l = ap priority_of (k.tci_is ∙ a.tci)
     ∙ lane_of_tci l (place_number tr.place) (place_is_number tr.place) in
@@ -154,6 +172,38 @@ manager_arrives : (l : Priority) (tr : Transaction) (i : ℕ) (s : Sent) (o : Op
 manager_arrives l tr i s None n t p h e a = not_enabled_step n t p h
 manager_arrives l tr i s (Some m) n t p h e a = outcome_arrives l tr i s (after_packet s.bytes m) m
     n t p h e a (hearing_is s.bytes m)
+
+-- ---- a notice comes to the manager
+
+-- no lane waits for its TCI
+notice_answers : (bytes : List ℕ) (o : Outcome) (m : Manager) (t : Told) (p : Channel)
+    (link : Link) (lives : ℕ) (unit : Option Onu) → Like link lives unit (Some m) t p
+    → packet_tci bytes ≡ 0 → IsTaken bytes m o → ⊥
+notice_answers bytes o m t p link lives unit h none k =
+    let l = priority_of k.frame.tci in
+    let w = busy l (drawn_in l t) (lane_in l m) (lane_view l p).lane k.waiting
+    (lane_like l t m p (h.manager_is m refl)) k.waits in
+    some_tci l (place_number w.outstanding.transaction.place)
+    (place_is_number w.outstanding.transaction.place)
+    (sym w.awaits.tci ∙ sym k.same ∙ k.tci_is ∙ none)
+
+notice_heard : (i : ℕ) (s : Sent) (o : Outcome) (m : Manager) (n : Nodes) (t : Told) (p : Channel)
+    → Like n.link n.ends.lives n.ends.unit (Some m) t p → Tells i s p
+    → (o ≡ untaken (packet_frame s.bytes) m) ⊎ IsTaken s.bytes m o
+    → StepFollows (preceded (PacketCame i s ∷ []) (manager_did o n.ends)) n t p
+notice_heard i s o m n t p h a (inl not) =
+    beside_arrives i s o m n t p (is_beside (packet_frame s.bytes) m o not)
+    (notice_up i s n.link n.ends.lives n.ends.unit (Some m) t p a h)
+notice_heard i s o m n t p h a (inr k) =
+    absurd (notice_answers s.bytes o m t p n.link n.ends.lives n.ends.unit h a.tci k)
+
+notice_arrives : (i : ℕ) (s : Sent) (o : Option Manager) (n : Nodes) (t : Told) (p : Channel)
+    → Rests n t p → n.ends.manager ≡ o → Tells i s p
+    → StepFollows (manager_got (PacketCame i s ∷ []) s.bytes o n.ends) n t p
+notice_arrives i s None n t p h e a = not_enabled_step n t p h
+notice_arrives i s (Some m) n t p h e a =
+    notice_heard i s (after_packet s.bytes m) m n t p
+    (subst (λ x. Like n.link n.ends.lives n.ends.unit x t p) e h) a (hearing_is s.bytes m)
 
 -- ---- deliveries
 
@@ -187,7 +237,15 @@ packet_arrives i s name (ReplyTo l tr r) n t p h named at k may =
       may = may_up l tr.place i s n.link p h.ways
           (same_length n.link.packets t.names p.shared.packets h.packets) k.0 k.1 may;
     }))
-packet_arrives i s name Unasked n t p h named at k may = absurd k
+packet_arrives i s name Unasked n t p h named at k may =
+    direction_arrives Up i s n t p k.0 (notice_arrives i s n.ends.manager n t p h refl (record {
+      at = at;
+      way = k.0;
+      tci = k.1;
+      may = may_up_in Low i s n.link p h.ways
+          (same_length n.link.packets t.names p.shared.packets h.packets) k.0
+          (ap priority_of k.1) may;
+    }))
 
 sent_arrives : (i : ℕ) (s : Sent) (b : Bool) (n : Nodes) (t : Told) (p : Channel) → Rests n t p
     → slice_get n.link.packets i ≡ Some s
@@ -267,6 +325,37 @@ noise_up_follows : (bytes : List ℕ) (n : Nodes) (t : Told) (p : Channel) → R
     → fault_of bytes ≢ None → StepFollows (noise Up bytes n.ends) n t p
 unfolding noise
 noise_up_follows bytes n t p h f = manager_noise bytes n.ends.manager n t p h refl f
+
+-- ---- the unit notices something
+
+noticed_follows : (o : Noticed) (packet : List ℕ) (link : Link) (lives : ℕ) (unit : Option Onu)
+    (manager : Option Manager) (t : Told) (p : Channel)
+    → (o ≡ noticed.Sent → packet_tci packet ≡ 0) → Like link lives unit manager t p
+    → Happens (notice_sent o packet) link lives unit manager t p
+noticed_follows noticed.NotAllowed packet link lives unit manager t p tci h = ([], h)
+noticed_follows noticed.Same packet link lives unit manager t p tci h = ([], h)
+noticed_follows noticed.Sent packet link lives unit manager t p tci h = (
+  Notify ∷ [],
+  record {
+    packets = one_more _ _ _ _ _ _ h.packets (refl, tci refl, refl);
+    ways = h.ways;
+    lives_are = h.lives_are;
+    drawn = h.drawn;
+    history = h.history;
+    unit_is = h.unit_is;
+    manager_is = h.manager_is;
+  },
+)
+
+noticing_follows : (call : Onu → Noticing) (o : Option Onu) (n : Nodes) (t : Told) (p : Channel)
+    → Rests n t p → n.ends.unit ≡ o → ((u : Onu) → IsNoticing u (call u))
+    → StepFollows (unit_notices call o n.ends) n t p
+noticing_follows call None n t p h e k = not_enabled_step n t p h
+noticing_follows call (Some u) n t p h e k =
+    noticed_follows (call u).noticed (call u).packet n.link n.ends.lives (Some (call u).unit)
+    n.ends.manager t p (k u).tci
+    (like_same_kept n.link n.ends.lives u (call u).unit n.ends.manager t p (k u).kept
+    (subst (λ x. Like n.link n.ends.lives x n.ends.manager t p) e h))
 
 -- ---- power
 
@@ -359,12 +448,18 @@ acted_follows (Set lane entity mask values) n t p h f =
 acted_follows (Delete lane entity) n t p h f = submit_follows lane entity request.Delete
     n.ends.manager n t p h refl
 acted_follows Resync n t p h f = resync_follows n.ends.manager n t p h refl
+acted_follows Audit n t p h f = audit_follows n.ends.manager n t p h refl
 acted_follows Check n t p h f = check_follows n.ends.manager n t p h refl
 acted_follows (Deliver number) n t p h f = delivery_follows number n t p h
 acted_follows (Flow times) n t p h f = flow_follows times n t p h
 acted_follows (NoiseUnit bytes) n t p h f = noise_down_follows bytes n t p h f
 acted_follows (NoiseOlt bytes) n t p h f = noise_up_follows bytes n t p h f
 acted_follows Tick n t p h f = second_follows n t p h
+acted_follows (Sense entity number value) n t p h f = noticing_follows
+    (onu_sensed entity number value) n.ends.unit n t p h refl (sensed_is entity number value)
+acted_follows (Alarm entity bitmap) n t p h f = noticing_follows
+    (onu_alarmed entity (filled BITMAP_BYTES bitmap)) n.ends.unit n t p h refl
+    (alarmed_is entity (filled BITMAP_BYTES bitmap))
 acted_follows CutUnit n t p h f = cut_unit_follows n.ends.unit n t p h
 acted_follows CutOlt n t p h f = cut_manager_follows n.ends.manager n t p h
 acted_follows StartUnit n t p h f = start_unit_follows n.ends.unit n t p h

@@ -1,5 +1,5 @@
 -- What the manager may make of a packet, by the TCI that stands in it.
-use Rattle.std.proofs.Common.{◌≡◌, ◌≢◌, ℕ, Bool, true, false, eqb, ◌||◌, List, Option, Some, None, ◌⊎◌, inl, inr, refl, ap, ◌∙◌}
+use Rattle.std.proofs.Common.{◌≡◌, ◌≢◌, ℕ, Bool, true, false, eqb, ◌||◌, List, Option, Some, None, ◌⊎◌, inl, inr, refl, sym, ap, ◌∙◌}
 use Rattle.std.proofs.lemmas.Bool.{eqb-true, and_parts}
 use Rattle.omci_types.specs.declared.Frame.{Frame}
 use Rattle.omci_types.specs.declared.Priority.{Priority}
@@ -8,8 +8,9 @@ use Rattle.frame_spec.specs.Baseline.{fault_of, packet_frame}
 use Rattle.lane_spec.specs.Command.{command_frame, is_probe, is_response, answers}
 use Rattle.lane_spec.specs.Lane.{Lane, Waiting, Replied, end_command, reply_by, reply_to, lane_reply}
 use Rattle.manager_spec.specs.Manager.{Manager, Outcome, lane_in, with_lane, and_then}
-use Rattle.manager_spec.specs.Resync.{job_goes_on}
-use Rattle.manager_spec.specs.Steps.{taken_as, packet_dropped, take_if, frame_came, for_frame, after_packet}
+use Rattle.message_spec.specs.Reading.{message_of}
+use Rattle.manager_spec.specs.Jobs.{job_goes_on}
+use Rattle.manager_spec.specs.Steps.{taken_as, packet_dropped, not_taken, take_if, frame_came, for_frame, after_packet}
 use Rattle.world_laws.proofs.Reading.{tci_read, noise_read}
 
 -- a frame is the reply to the command that is outstanding in a lane
@@ -54,6 +55,11 @@ meant_by lane f w m = taken_as w.command.purpose lane w.command f (freed_lane la
 abbrev pub taken_by : Priority → Frame → Waiting → Manager → Outcome
 taken_by lane f w m = and_then (meant_by lane f w m) job_goes_on
 
+-- what comes of a packet that is no reply that a lane waits for
+abbrev pub untaken : Option Frame → Manager → Outcome
+untaken None m = packet_dropped m
+untaken (Some f) m = not_taken (message_of f) f m
+
 -- a frame is taken
 record IsTakenAs (f : Frame) (m : Manager) (o : Outcome) : Type 0 where
   waiting : Waiting
@@ -62,7 +68,7 @@ record IsTakenAs (f : Frame) (m : Manager) (o : Outcome) : Type 0 where
   is : o ≡ taken_by (priority_of f.tci) f waiting m
 
 frame_came_is : (f : Frame) (m : Manager)
-    → (frame_came (priority_of f.tci) f m ≡ packet_dropped m)
+    → (frame_came (priority_of f.tci) f m ≡ untaken (Some f) m)
     ⊎ IsTakenAs f m (frame_came (priority_of f.tci) f m)
 frame_came_is f m = go (lane_reply_is f (lane_in lane m))
   where
@@ -71,7 +77,7 @@ frame_came_is f m = go (lane_reply_is f (lane_in lane m))
 
     go : ((lane_reply f (lane_in lane m)).taken ≡ false) ⊎ Replies f (lane_in lane m)
         (lane_reply f (lane_in lane m))
-        → (frame_came lane f m ≡ packet_dropped m) ⊎ IsTakenAs f m (frame_came lane f m)
+        → (frame_came lane f m ≡ untaken (Some f) m) ⊎ IsTakenAs f m (frame_came lane f m)
     go (inl drops) = inl (ap (λ b. take_if b (lane_in lane m).outstanding lane f m) drops)
     go (inr r) = inr (record {
       waiting = r.waiting;
@@ -95,9 +101,9 @@ pub record IsTaken (bytes : List ℕ) (m : Manager) (o : Outcome) : Type 0 where
   pub is : o ≡ taken_by (priority_of frame.tci) frame waiting m
 
 with_packet : (bytes : List ℕ) (f : Frame) (m : Manager) (o : Outcome)
-    → packet_frame bytes ≡ Some f → (o ≡ packet_dropped m) ⊎ IsTakenAs f m o
-    → (o ≡ packet_dropped m) ⊎ IsTaken bytes m o
-with_packet bytes f m o e (inl drops) = inl drops
+    → packet_frame bytes ≡ Some f → (o ≡ untaken (Some f) m) ⊎ IsTakenAs f m o
+    → (o ≡ untaken (packet_frame bytes) m) ⊎ IsTaken bytes m o
+with_packet bytes f m o e (inl not) = inl (not ∙ ap (λ x. untaken x m) (sym e))
 with_packet bytes f m o e (inr k) = inr (record {
   frame = f;
   read = e;
@@ -109,14 +115,14 @@ with_packet bytes f m o e (inr k) = inr (record {
 })
 
 for_frame_is : (o : Option Frame) (bytes : List ℕ) (m : Manager) → packet_frame bytes ≡ o
-    → (for_frame o m ≡ packet_dropped m) ⊎ IsTaken bytes m (for_frame o m)
-for_frame_is None bytes m e = inl refl
+    → (for_frame o m ≡ untaken (packet_frame bytes) m) ⊎ IsTaken bytes m (for_frame o m)
+for_frame_is None bytes m e = inl (ap (λ x. untaken x m) (sym e))
 for_frame_is (Some f) bytes m e = with_packet bytes f m (for_frame (Some f) m) e
     (frame_came_is f m)
 
--- a packet is dropped, or ends the wait of a lane
+-- a packet ends the wait of a lane, or answers nothing
 pub hearing_is : (bytes : List ℕ) (m : Manager)
-    → (after_packet bytes m ≡ packet_dropped m)
+    → (after_packet bytes m ≡ untaken (packet_frame bytes) m)
     ⊎ IsTaken bytes m (after_packet bytes m)
 unfolding after_packet
 hearing_is bytes m = for_frame_is (packet_frame bytes) bytes m refl

@@ -1,6 +1,6 @@
 -- What is known of the packets that may come next, from the channel of the moves that made up for a
 -- script.
-use Rattle.std.proofs.Common.{◌≡◌, ◌≢◌, ℕ, ◌-◌, ◌≤◌, Bool, true, false, Option, Some, None, slice_get, ◌⊎◌, inl, inr, refl, sym, ap, subst, ◌∙◌}
+use Rattle.std.proofs.Common.{◌≡◌, ◌≢◌, ℕ, ◌-◌, ◌≤◌, Bool, true, false, Option, Some, None, slice_get, ◌⊎◌, inl, inr, refl, sym, ap, subst, ◌∙◌, arith}
 use Rattle.std.proofs.lemmas.Option.{same_Some}
 use Rattle.std.specs.List.{Contains}
 use Rattle.omci_types.specs.declared.Priority.{Priority}
@@ -15,16 +15,17 @@ use Rattle.unit_spec.specs.declared.Note.{Note}
 use Rattle.unit_spec.specs.declared.Did.TheVariants as did
 use Rattle.unit_spec.specs.Onu.{Onu, Reception, drop_packet, unless_kept}
 use Rattle.history_spec.specs.History.{WasCarried, LastReply}
-use Rattle.moves_spec.specs.Channel.{Transaction, LinkPacket, RequestOf, ReplyTo, Unasked, KeptReply, Outstanding, LaneState, Channel, lane_view, first_channel}
+use Rattle.moves_spec.specs.Channel.{Transaction, place_number, LinkPacket, RequestOf, ReplyTo, Unasked, KeptReply, Outstanding, LaneState, Channel, lane_view, first_channel}
 use Rattle.moves_spec.specs.Moves.{after_moves}
 use Rattle.moves_laws.specs.Facts as moves
 use Rattle.moves_laws.proofs.Parts.{SoundChannel}
+use Rattle.moves_laws.proofs.Numbers.{place_is_number}
 use Rattle.moves_laws.proofs.Runs.{channel_after}
 use Rattle.moves_laws.proofs.Reached.{carried_fresh, carried_awaited, taken_is_own, taken_is_kept, taken_was_carried, taken_is_last, reply_before_request}
 use Rattle.world_spec.specs.Nodes.{Nodes, first_nodes, nodes_after}
 use Rattle.world_spec.specs.History.{Told, first_told, drawn_in, name_at}
 use Rattle.world_laws.specs.Facts.{AreReached, MayCome, MayBeCarriedOut, MayBeTaken, IsAwaited, KeepsTci}
-use Rattle.world_laws.proofs.Tcis.{same_number}
+use Rattle.world_laws.proofs.Tcis.{same_number, some_tci}
 use Rattle.world_laws.proofs.Likeness.{tci_at, IsPacket, at_place, same_length, Awaits, IsOut, IsLaneOf, IsKept, lane_like, busy}
 use Rattle.world_laws.proofs.Unit.{IsAsked, reception_is}
 use Rattle.world_laws.proofs.Turns.{Rests}
@@ -99,7 +100,7 @@ request_down l i s name (RequestOf k tr) n t p h lane way named at q may =
     })
 request_down l i s name (ReplyTo k tr r) n t p h lane way named at q may =
     absurd (let a = q.0 in cc)
-request_down l i s name Unasked n t p h lane way named at q may = absurd q
+request_down l i s name Unasked n t p h lane way named at q may = absurd (let a = q.0 in cc)
 
 goes_down : (l : Priority) (i : ℕ) (s : Sent) (n : Nodes) (t : Told) (p : Channel) → Rests n t p
     → MayCome Down l n i s → GoesDown l i s t p
@@ -115,13 +116,19 @@ record GoesUp (l : Priority) (i : ℕ) (s : Sent) (t : Told) (p : Channel) : Typ
   tci : packet_tci s.bytes ≡ tci_at l transaction.place
   name : name_at i t.names ≡ transaction.id
 
+-- or a notice
+record IsNotice (i : ℕ) (s : Sent) (t : Told) : Type 0 where
+  tci : packet_tci s.bytes ≡ 0
+  name : name_at i t.names ≡ 0
+
 reply_up : (l : Priority) (i : ℕ) (s : Sent) (name : ℕ) (y : LinkPacket) (n : Nodes) (t : Told)
     (p : Channel) → Rests n t p
     → lane_of s.bytes ≡ l → s.direction ≡ Up → slice_get t.names i ≡ Some name
     → slice_get p.shared.packets i ≡ Some y → IsPacket s name y
-    → may_come i (way_of s n.link.ways) (count n.link) ≡ true → GoesUp l i s t p
+    → may_come i (way_of s n.link.ways) (count n.link) ≡ true
+    → GoesUp l i s t p ⊎ IsNotice i s t
 reply_up l i s name (ReplyTo k tr r) n t p h lane way named at q may =
-    subst (λ x. GoesUp x i s t p) (sym (lane_is k tr.place s.bytes q.1) ∙ lane) (record {
+    inl (subst (λ x. GoesUp x i s t p) (sym (lane_is k tr.place s.bytes q.1) ∙ lane) (record {
       transaction = tr;
       may = record {
         reply = subst (λ x. slice_get p.shared.packets i ≡ Some (ReplyTo k tr x)) (sym q.3) at;
@@ -130,12 +137,13 @@ reply_up l i s name (ReplyTo k tr r) n t p h lane way named at q may =
       };
       tci = q.1;
       name = name_is_at t.names i name named ∙ q.2;
-    })
+    }))
 reply_up l i s name (RequestOf k tr) n t p h lane way named at q may = absurd (let a = q.0 in cc)
-reply_up l i s name Unasked n t p h lane way named at q may = absurd q
+reply_up l i s name Unasked n t p h lane way named at q may =
+    inr (record { tci = q.1; name = name_is_at t.names i name named ∙ q.2 })
 
 goes_up : (l : Priority) (i : ℕ) (s : Sent) (n : Nodes) (t : Told) (p : Channel) → Rests n t p
-    → MayCome Up l n i s → GoesUp l i s t p
+    → MayCome Up l n i s → GoesUp l i s t p ⊎ IsNotice i s t
 goes_up l i s n t p h m =
     let a = allowed_is i n.link s m.may in
     let b = at_place n.link.packets t.names p.shared.packets i s h.packets a.0 in
@@ -233,11 +241,23 @@ record TakenUp (l : Priority) (i : ℕ) (s : Sent) (m : Manager) (w : Waiting) (
   awaits : Awaits l (drawn_in l t) (lane_in l m).next w (lane_view l p).lane.place outstanding
   may : moves.MayBeTaken l p i goes.transaction s.bytes outstanding
 
+-- a notice has no TCI that is waited for
+reply_goes_up : (l : Priority) (i : ℕ) (s : Sent) (m : Manager) (w : Waiting) (n : Nodes)
+    (t : Told) (p : Channel) → Rests n t p → MayBeTaken l n i s m w
+    → GoesUp l i s t p ⊎ IsNotice i s t → GoesUp l i s t p
+reply_goes_up l i s m w n t p h may (inl g) = g
+reply_goes_up l i s m w n t p h may (inr k) =
+    let q = busy l (drawn_in l t) (lane_in l m)
+    (lane_view l p).lane w (lane_like l t m p (h.manager_is m may.on)) may.waits in
+    absurd (some_tci l (place_number q.outstanding.transaction.place)
+    (place_is_number q.outstanding.transaction.place)
+    (sym q.awaits.tci ∙ sym may.same ∙ k.tci))
+
 taken_up : (l : Priority) (i : ℕ) (s : Sent) (m : Manager) (w : Waiting) (n : Nodes) (t : Told)
     (p : Channel) → Rests n t p → MayBeTaken l n i s m w
     → TakenUp l i s m w t p
 taken_up l i s m w n t p h may =
-    let g = goes_up l i s n t p h may.comes in
+    let g = reply_goes_up l i s m w n t p h may (goes_up l i s n t p h may.comes) in
     let k = busy l (drawn_in l t) (lane_in l m)
     (lane_view l p).lane w (lane_like l t m p (h.manager_is m may.on)) may.waits in
     record {
@@ -323,10 +343,14 @@ is_last l n t i s m w k may probe =
 pub is_older : (l : Priority) (n : Nodes) (t : Told) (up down : ℕ) (r s : Sent) → Linked n t
     → MayCome Up l n up r → MayCome Down l n down s
     → name_at up t.names ≤ name_at down t.names
-is_older l n t up down r s k a b =
-    let g = goes_up l up r n t k.channel k.rests a in
-    let d = goes_down l down s n t k.channel k.rests b in
-    subst (λ x. x ≤ name_at down t.names) (sym g.name)
-    (subst (λ x. g.transaction.id ≤ x) (sym d.name)
-    (reply_before_request l k.channel up down g.transaction d.transaction r.bytes k.sound g.may
-    d.may))
+is_older l n t up down r s k a b = go (goes_up l up r n t k.channel k.rests a)
+  where
+    d : GoesDown l down s t k.channel
+    d = goes_down l down s n t k.channel k.rests b
+
+    go : GoesUp l up r t k.channel ⊎ IsNotice up r t → name_at up t.names ≤ name_at down t.names
+    go (inl g) = subst (λ x. x ≤ name_at down t.names) (sym g.name)
+        (subst (λ x. g.transaction.id ≤ x) (sym d.name)
+        (reply_before_request l k.channel up down g.transaction d.transaction r.bytes k.sound g.may
+        d.may))
+    go (inr q) = omega (arith, q.name)

@@ -54,6 +54,7 @@ one_deed : (h : Happening) (t : Told) → map deed_of (tell h t).history
 one_deed (CommandDrawn Low) t = refl
 one_deed (CommandDrawn High) t = refl
 one_deed (UnitNoted life (note.Snapshot entities counter) before) t = refl
+one_deed (UnitNoted life (note.Alarms rows) before) t = refl
 one_deed _ t = refl
 
 one_packet : (h : Happening) (t : Told) → (tell h t).packet ≡ packet_after h t.packet

@@ -1,19 +1,20 @@
 -- Packets that come to the manager.
-use Rattle.std.proofs.Common.{◌≡◌, ℕ, Bool, true, false, ◌||◌, List, [], ◌∷◌, Option, Some, None, slice_get, ◌⊎◌, inl, inr, refl, sym, ap, subst, ◌∙◌, arith, nat_eq}
+use Rattle.std.proofs.Common.{◌≡◌, ℕ, ◌==◌, Bool, true, false, ◌||◌, List, [], ◌∷◌, Option, Some, None, slice_get, ◌⊎◌, inl, inr, refl, sym, ap, subst, ◌∙◌, arith, nat_eq}
 use Rattle.std.proofs.lemmas.Bool.Decides.{nat_tests}
 use Rattle.omci_types.specs.declared.Priority.{Priority}
 use Rattle.omci_types.specs.declared.Priority.TheVariants.{Low, High}
-use Rattle.tci_spec.specs.Tci.{packet_tci}
+use Rattle.tci_spec.specs.Tci.{priority_of, packet_tci}
 use Rattle.link_spec.specs.declared.Direction.TheVariants.{Up}
-use Rattle.link_spec.specs.Link.{Sent, Link, way_in, with_way, passed, delivered_on}
+use Rattle.link_spec.specs.Link.{Sent, Link, way_in, with_way, passed, delivered_on, lane_of}
 use Rattle.lane_spec.specs.Command.{is_probe}
 use Rattle.lane_spec.specs.Lane.{Lane, Waiting, end_command}
 use Rattle.manager_spec.specs.Manager.{Manager, lane_in, with_lane}
 use Rattle.unit_spec.specs.Onu.{Onu}
+use Rattle.alarm_spec.specs.Alarms.{Alarm}
 use Rattle.history_spec.specs.History.{TookReply}
-use Rattle.moves_spec.specs.Channel.{Transaction, place_number, ReplyTo, Outstanding, Channel, View, lane_view, with_lane_view}
-use Rattle.moves_spec.specs.Moves.{ReplyComes, with_floor_up, with_end, with_written, take_reply, take_if_same, take_if_waiting, reply_if, may_go_up, reply_at, after_move}
-use Rattle.world_spec.specs.History.{Told, drawn_in}
+use Rattle.moves_spec.specs.Channel.{Transaction, place_number, ReplyTo, Unasked, Outstanding, Channel, View, lane_view, with_lane_view}
+use Rattle.moves_spec.specs.Moves.{ReplyComes, with_floor_up, with_end, with_written, take_reply, take_if_same, take_if_waiting, reply_if, may_go_up, notice_if, reply_at, after_move}
+use Rattle.world_spec.specs.History.{Told, drawn_in, answers_in, notices_if}
 use Rattle.world_laws.proofs.Tcis.{same_number}
 use Rattle.world_laws.proofs.Likeness.{tci_at, Like, lane_like, Waits, busy, Follows}
 use Rattle.world_laws.proofs.Ticks.{ended_like}
@@ -56,16 +57,47 @@ up_like High number s link lives unit manager t p h = record {
   manager_is = λ m e. let k = h.manager_is m e in record { is_low = k.is_low; is_high = k.is_high };
 }
 
+came_in : (l : Priority) (number : ℕ) (s : Sent) (link : Link) (lives : ℕ) (unit : Option Onu)
+    (manager : Option Manager) (t : Told) (p : Channel)
+    → s.direction ≡ Up → lane_of s.bytes ≡ l → Like link lives unit manager t p
+    → Like (delivered_on number s link) lives unit manager (came_told number s t)
+    (with_lane_view l (with_floor_up number (lane_view l p)) p)
+came_in l number s link lives unit manager t p d e h =
+    subst (λ w. Like (record link { ways = w }) lives unit manager (came_told number s t)
+    (with_lane_view l (with_floor_up number (lane_view l p)) p))
+    (sym (ways_up l number s link.ways d e))
+    (up_like l number s link lives unit manager t p h)
+
 came_up : (l : Priority) (place number : ℕ) (s : Sent) (link : Link) (lives : ℕ) (unit : Option Onu)
     (manager : Option Manager) (t : Told) (p : Channel)
     → s.direction ≡ Up → packet_tci s.bytes ≡ tci_at l place → Like link lives unit manager t p
     → Like (delivered_on number s link) lives unit manager (came_told number s t)
     (with_lane_view l (with_floor_up number (lane_view l p)) p)
 came_up l place number s link lives unit manager t p d e h =
-    subst (λ w. Like (record link { ways = w }) lives unit manager (came_told number s t)
-    (with_lane_view l (with_floor_up number (lane_view l p)) p))
-    (sym (ways_up l number s link.ways d (lane_is l place s.bytes e)))
-    (up_like l number s link lives unit manager t p h)
+    came_in l number s link lives unit manager t p d (lane_is l place s.bytes e) h
+
+-- ---- a notice comes
+
+-- a notice stands at that place and may come, in the low lane
+pub record Tells (i : ℕ) (s : Sent) (p : Channel) : Type 0 where
+  pub at : slice_get p.shared.packets i ≡ Some Unasked
+  pub way : s.direction ≡ Up
+  pub tci : packet_tci s.bytes ≡ 0
+  pub may : may_go_up i (lane_view Low p) ≡ true
+
+-- of all the channel only the floor has changed
+pub notice_up : (i : ℕ) (s : Sent) (link : Link) (lives : ℕ) (unit : Option Onu)
+    (manager : Option Manager) (t : Told) (p : Channel) → Tells i s p
+    → Like link lives unit manager t p
+    → Follows (delivered_on i s link) lives unit manager (came_told i s t) p
+notice_up i s link lives unit manager t p a h = (
+  ReplyComes i false ∷ [],
+  subst (λ q. Like (delivered_on i s link) lives unit manager (came_told i s t) q)
+      (sym (ap (λ o. reply_at i false p o) a.at ∙ ap (λ b. notice_if i p b) a.may))
+      (came_in Low i s link lives unit manager t p a.way (ap priority_of a.tci) h),
+)
+
+-- ---- a reply comes
 
 -- a reply to the transaction stands at that place and may come
 pub record Returns (l : Priority) (tr : Transaction) (i : ℕ) (s : Sent) (p : Channel) : Type 0 where
@@ -107,11 +139,12 @@ dropped_up l tr i s link lives unit m t p a h = (
 -- ---- it is taken
 
 written_like : (l : Priority) (id : ℕ) (bytes : List ℕ) (link : Link) (lives : ℕ)
-    (unit : Option Onu) (manager : Option Manager) (t : Told) (v : View) (p : Channel)
-    → Like link lives unit manager t (with_lane_view l v p)
-    → Like link lives unit manager (record t { history = TookReply id bytes ∷ t.history })
+    (unit : Option Onu) (manager : Option Manager) (t : Told) (notices : List Alarm) (v : View)
+    (p : Channel) → Like link lives unit manager t (with_lane_view l v p)
+    → Like link lives unit manager
+    (record t { history = TookReply id bytes ∷ t.history; notices = notices })
     (with_lane_view l (with_written (TookReply id bytes) v) p)
-written_like Low id bytes link lives unit manager t v p h = record {
+written_like Low id bytes link lives unit manager t notices v p h = record {
   packets = h.packets;
   ways = h.ways;
   lives_are = h.lives_are;
@@ -120,7 +153,7 @@ written_like Low id bytes link lives unit manager t v p h = record {
   unit_is = h.unit_is;
   manager_is = h.manager_is;
 }
-written_like High id bytes link lives unit manager t v p h = record {
+written_like High id bytes link lives unit manager t notices v p h = record {
   packets = h.packets;
   ways = h.ways;
   lives_are = h.lives_are;
@@ -147,7 +180,8 @@ take_goes l tr i bytes p o probe at may w same b =
 -- what the history makes of it
 abbrev pub told_taken : Bool → Priority → Told → Told
 told_taken true l t = t
-told_taken false l t = record t { history = TookReply (drawn_in l t) t.packet ∷ t.history }
+told_taken false l t =
+    record (answers_in l t) { history = TookReply (drawn_in l t) t.packet ∷ t.history }
 
 pub taken_up : (l : Priority) (tr : Transaction) (i : ℕ) (s : Sent) (w : Waiting) (probe : Bool)
     (link : Link) (lives : ℕ) (unit : Option Onu) (m : Manager) (t : Told) (p : Channel)
@@ -219,10 +253,10 @@ taken_up l tr i s w probe link lives unit m t p a h waiting same b = go probe b
           (told_taken false l c) z)
           (sym (take_goes l tr i s.bytes p o false a.at a.may k.is number (sym k.awaits.probe ∙ e)))
           (subst (λ n. Like (delivered_on i s link) lives unit (Some (with_lane l after m))
-          (record c { history = TookReply n s.bytes ∷ c.history })
+          (record (answers_in l c) { history = TookReply n s.bytes ∷ c.history })
           (with_lane_view l (take_reply s.bytes v o false) p)) (sym own)
           (written_like l o.transaction.id s.bytes (delivered_on i s link) lives unit _ c
-          (with_end v.lane.proved v) p
+          (notices_if (drawn_in l c == c.asking) c.notices) (with_end v.lane.proved v) p
           (lane_ends (lane_view l p).lane.proved (inl refl)
           (ap (λ y. y || x.proved) e ∙ (lane_like l t m p (h.manager_is m refl)).proved_is)))),
     )

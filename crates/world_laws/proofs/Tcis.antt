@@ -33,3 +33,8 @@ tci_fits High n h = omega (arith, h.most)
 pub tci_spelled : (f : Frame) → f.tci < 2 ^ 16 → packet_tci (spelling f) ≡ f.tci
 unfolding spelling checked_bytes
 tci_spelled f fits = from_be_bytes-to_be_bytes_2 f.tci fits
+
+-- a command's TCI isn't 0, which a notice's is
+pub some_tci : (l : Priority) (n : ℕ) → IsNumber n → tci_of l n ≡ 0 → ⊥
+some_tci Low n h e = omega (arith, h.some)
+some_tci High n h e = omega arith

@@ -11,7 +11,7 @@ use Rattle.lane_spec.specs.declared.LaneTick.TheVariants.{GaveUp}
 use Rattle.lane_spec.specs.Command.{command_packets}
 use Rattle.lane_spec.specs.Lane.{Lane, Waiting, is_changed_by, tick_by, tick_waiting, lane_tick}
 use Rattle.manager_spec.specs.Manager.{Manager, lane_in, with_lane}
-use Rattle.manager_spec.specs.Resync.{waits_for}
+use Rattle.manager_spec.specs.Jobs.{waits_for}
 use Rattle.manager_spec.specs.Steps.{lane_ticked, tick_lane}
 use Rattle.unit_spec.specs.Onu.{Onu}
 use Rattle.moves_spec.specs.Channel.{Outstanding, Channel, View, lane_view, with_lane_view}

@@ -6,15 +6,17 @@ use Rattle.omci_types.specs.declared.EntityId.{EntityId}
 use Rattle.omci_types.specs.declared.Priority.{Priority}
 use Rattle.omci_types.specs.declared.Priority.TheVariants.{Low, High}
 use Rattle.message_spec.specs.declared.Request.{Request}
+use Rattle.message_spec.specs.declared.Request.TheVariants as request
 use Rattle.lane_spec.specs.Command.{probe_command, check_command, ask, job_command, sync_entity}
 use Rattle.lane_spec.specs.Lane.{Lane, Waiting, lane_tick}
 use Rattle.lane_spec.specs.declared.LaneTick.{LaneTick}
 use Rattle.lane_spec.specs.declared.LaneTick.TheVariants.{Quiet, Repeat, GaveUp}
 use Rattle.manager_spec.specs.declared.Refusal.{Refusal}
 use Rattle.manager_spec.specs.declared.Refusal.TheVariants.{Unproven}
-use Rattle.manager_spec.specs.Manager.{Probing, Manager, Outcome, and_then, lane_in, command_sent}
-use Rattle.manager_spec.specs.Resync.{Wish, with_job, is_free, send_wish, wish_in, job_goes_on}
-use Rattle.manager_spec.specs.Submitting.{occupied, occupied_by, unproven, out_of_step, needs_copy, job_running, job_in_the_way, other_change, second_change, first_refusal, unless_refused, probe_refusal, after_probe, submit_refusal, leaves_copy, leave_if, after_submit, check_refusal, after_check, resync_refusal, after_resync}
+use Rattle.manager_spec.specs.Manager.{Probing, AskingAlarms, Manager, Outcome, and_then, lane_in, command_sent}
+use Rattle.manager_spec.specs.Resync.{with_job}
+use Rattle.manager_spec.specs.Jobs.{Wish, is_free, send_wish, wish_in, job_goes_on}
+use Rattle.manager_spec.specs.Submitting.{occupied, occupied_by, unproven, out_of_step, needs_copy, job_running, job_in_the_way, other_change, second_change, first_refusal, unless_refused, probe_refusal, after_probe, submit_refusal, leaves_copy, leave_if, after_submit, check_refusal, after_check, resync_refusal, after_resync, audit_refusal, audit_asked, after_audit}
 use Rattle.manager_spec.specs.Steps.{lane_ticked, tick_lane, after_tick}
 use Rattle.unit_spec.specs.Onu.{Onu, onu_ticked}
 use Rattle.link_spec.specs.Link.{Link}
@@ -214,6 +216,35 @@ pub resync_follows : (o : Option Manager) (n : Nodes) (t : Told) (p : Channel) �
     → n.ends.manager ≡ o → StepFollows (submission after_resync o n.ends) n t p
 resync_follows None n t p h e = not_enabled_step n t p h
 resync_follows (Some m) n t p h e = resync_goes m n t p h e
+
+-- all alarms are asked for
+audit_goes : (m : Manager) (n : Nodes) (t : Told) (p : Channel) → Rests n t p
+    → n.ends.manager ≡ Some m → StepFollows (submission_step (after_audit m) n.ends) n t p
+unfolding after_audit
+audit_goes m n t p h e =
+    submission_by (audit_refusal m) (audit_asked m) m n t p h
+    (λ none. own_follows (audit_asked m) m n t p h e refl
+    (goes (first_none (unproven Low m) rest none)))
+  where
+    more : List (Option Refusal)
+    more = job_running m ∷ []
+
+    rest : List (Option Refusal)
+    rest = occupied Low m ∷ more
+
+    asking : Manager
+    asking = with_job (Some AskingAlarms) m
+
+    goes : (unproven Low m ≡ None) × (first_refusal rest ≡ None) → OutcomeFollows m (audit_asked m)
+    goes k = from_same m asking (audit_asked m) (record { low = refl; high = refl })
+        (command_follows true Low (job_command sync_entity (request.Alarms 0)) asking
+        (unoccupied m.low.outstanding (first_none (occupied Low m) more k.1).0)
+        (proved_any m.low.proved false (is_proved m.low.proved Low k.0)))
+
+pub audit_follows : (o : Option Manager) (n : Nodes) (t : Told) (p : Channel) → Rests n t p
+    → n.ends.manager ≡ o → StepFollows (submission after_audit o n.ends) n t p
+audit_follows None n t p h e = not_enabled_step n t p h
+audit_follows (Some m) n t p h e = audit_goes m n t p h e
 
 -- ---- the job goes on
 

@@ -1,5 +1,5 @@
 -- What the unit may make of a packet, by the TCI that stands in it alone.
-use Rattle.std.proofs.Common.{◌≡◌, ◌≢◌, ℕ, Bool, true, false, List, Option, Some, None, Result, Ok, Err, ◌⊎◌, inl, inr, refl, ap, ◌∙◌}
+use Rattle.std.proofs.Common.{◌≡◌, ◌≢◌, ℕ, Bool, true, false, List, Option, Some, None, Result, Ok, Err, ◌⊎◌, inl, inr, refl, ap, ◌∙◌, arith}
 use Rattle.omci_types.specs.declared.Frame.{Frame}
 use Rattle.message_spec.specs.declared.Message.{Message}
 use Rattle.message_spec.specs.declared.Message.TheVariants.{Asked, Answered, Told}
@@ -9,8 +9,18 @@ use Rattle.message_spec.specs.declared.ContentsFault.{ContentsFault}
 use Rattle.message_spec.specs.declared.ContentsFault.TheVariants.{UnknownType, Bits}
 use Rattle.message_spec.specs.Reading.{plain, message_of}
 use Rattle.frame_spec.specs.Baseline.{fault_of, packet_frame}
+use Rattle.message_spec.specs.declared.Notice.{Notice}
+use Rattle.omci_types.specs.declared.EntityId.{EntityId}
+use Rattle.mib_spec.specs.Database.{Database}
+use Rattle.mib_spec.specs.Requests.{sense_outcome}
+use Rattle.mib_spec.specs.declared.Sensed.{Sensed}
+use Rattle.mib_spec.specs.declared.Sensed.TheVariants as sensed
+use Rattle.alarm_spec.specs.Log.{change}
+use Rattle.unit_spec.specs.declared.Noticed.TheVariants as noticed
+use Rattle.unit_spec.specs.Noticing.{Noticing, notice_packet, sensed_as, onu_sensed, told_by, alarm_if, may_alarm, onu_alarmed}
 use Rattle.tci_spec.specs.Tci.{packet_tci}
 use Rattle.unit_spec.specs.Onu.{Onu, Reception, Answer, answer, not_supported, take_request, drop_packet, asks_nothing, unless_quiet, has_request_bits, if_request, for_message, for_frame, onu_received}
+use Rattle.world_laws.proofs.Tcis.{tci_spelled}
 use Rattle.world_laws.proofs.Reading.{tci_read, noise_read}
 
 -- a packet with this TCI is taken as a request, whose answer has the same TCI
@@ -84,3 +94,44 @@ pub noise_received : (bytes : List ℕ) (u : Onu) → fault_of bytes ≢ None �
     ≡ drop_packet u
 unfolding onu_received
 noise_received bytes u h = ap (λ o. for_frame o u) (noise_read bytes h)
+
+-- ---- what the unit notices by itself
+
+-- it leaves the kept replies alone, and its notice has the TCI 0
+pub record IsNoticing (u : Onu) (n : Noticing) : Type 0 where
+  pub kept : n.unit.kept ≡ u.kept
+  pub tci : n.noticed ≡ noticed.Sent → packet_tci n.packet ≡ 0
+
+notice_tci : (one : EntityId) (notice : Notice) → packet_tci (notice_packet one notice) ≡ 0
+unfolding plain
+notice_tci one notice = tci_spelled (plain (Told 0 one notice)) (omega arith)
+
+sensed_by : (o : Sensed) (one : EntityId) (number : ℕ) (value : List ℕ) (db : Database) (u : Onu)
+    → IsNoticing u (sensed_as o one number value db u)
+sensed_by sensed.NotAllowed one number value db u =
+    record { kept = refl; tci = λ e. absurd (cc) }
+sensed_by sensed.Same one number value db u = record { kept = refl; tci = λ e. absurd (cc) }
+sensed_by sensed.Changed one number value db u =
+    record { kept = refl; tci = λ e. notice_tci one _ }
+
+pub sensed_is : (one : EntityId) (number : ℕ) (value : List ℕ) (u : Onu)
+    → IsNoticing u (onu_sensed one number value u)
+unfolding onu_sensed
+sensed_is one number value u =
+    let o = sense_outcome one number value u.database in sensed_by o.0 one number value o.1 u
+
+told_is : (o : Option Notice) (one : EntityId) (u v : Onu) → v.kept ≡ u.kept
+    → IsNoticing u (told_by o one v)
+told_is None one u v e = record { kept = e; tci = λ f. absurd (cc) }
+told_is (Some notice) one u v e = record { kept = e; tci = λ f. notice_tci one notice }
+
+alarmed_by : (b : Bool) (one : EntityId) (bitmap : List ℕ) (u : Onu)
+    → IsNoticing u (alarm_if b one bitmap u)
+alarmed_by false one bitmap u = record { kept = refl; tci = λ e. absurd (cc) }
+alarmed_by true one bitmap u =
+    let c = change one bitmap u.log in told_is c.notice one u (record u { log = c.log }) refl
+
+pub alarmed_is : (one : EntityId) (bitmap : List ℕ) (u : Onu)
+    → IsNoticing u (onu_alarmed one bitmap u)
+unfolding onu_alarmed
+alarmed_is one bitmap u = alarmed_by (may_alarm one u.database) one bitmap u

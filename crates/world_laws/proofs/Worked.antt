@@ -18,7 +18,7 @@ use Rattle.unit_spec.specs.Onu.{onu_started, answer, take_request, onu_received,
 use Rattle.lane_spec.specs.Command.{command_frame}
 use Rattle.lane_spec.specs.Lane.{lane_tick, lane_reply}
 use Rattle.manager_spec.specs.Copying.{followed}
-use Rattle.manager_spec.specs.Resync.{job_goes_on}
+use Rattle.manager_spec.specs.Jobs.{job_goes_on}
 use Rattle.manager_spec.specs.Submitting.{after_probe, after_submit}
 use Rattle.manager_spec.specs.Steps.{response_of, after_packet, after_tick}
 use Rattle.link_spec.specs.Link.{allowed, ways_past, fresh}

@@ -5,10 +5,14 @@ use Rattle.frame_spec.specs.Baseline.{packet_frame}
 use Rattle.link_spec.specs.Link.{count}
 use Rattle.mib_spec.specs.Database.{Database}
 use Rattle.upload_spec.specs.Pieces.{Copy}
+use Rattle.alarm_spec.specs.Alarms.{Alarms}
+use Rattle.unit_spec.specs.declared.Note.{Note}
+use Rattle.unit_spec.specs.declared.Note.TheVariants as note
+use Rattle.unit_spec.specs.Onu.{Onu}
 use Rattle.manager_spec.specs.declared.Report.TheVariants as report
 use Rattle.script_spec.specs.Script.{Header, Script, Action}
-use Rattle.history_spec.specs.History.{Entry, CarriedOut, TookReply, TookSnapshot, Synced, Remarked}
-use Rattle.world_spec.specs.Happenings.{Happening, UnitStarted, PacketCame, UnitCarried, UnitNoted, ReplyTaken, CopyTold, Reported, next_after}
+use Rattle.history_spec.specs.History.{Entry, CarriedOut, TookReply, TookSnapshot, Synced, TookAlarms, Audited, Remarked}
+use Rattle.world_spec.specs.Happenings.{Happening, UnitStarted, PacketCame, UnitCarried, UnitNoted, ReplyTaken, CopyTold, TableTold, Reported, next_after}
 use Rattle.world_spec.specs.Ends.{factory_software}
 use Rattle.world_spec.specs.Nodes.{Nodes, step, first_nodes}
 use Rattle.world_spec.specs.Trace.{happening_text}
@@ -49,25 +53,35 @@ lines_of s = happening_text s.event s.next s.happening
 
 -- ---- the history
 
--- an entry of the history without its command
+-- an entry of the history without its command, and without the notices that an audit's table follows
 pub data Deed : Type 0 where
   Carried : (life : ℕ) (reply : List ℕ) (before : Database) → Deed
   Took : (packet : List ℕ) → Deed
   PutBy : (life : ℕ) (database : Database) → Deed
   Gave : (copy : Copy) → Deed
+  PutAlarmsBy : (life : ℕ) (alarms : Alarms) → Deed
+  GaveTable : (table : Alarms) → Deed
 
 abbrev pub deed_of : Entry → Deed
 deed_of (CarriedOut life command reply before) = Carried life reply before
 deed_of (TookReply command packet) = Took packet
 deed_of (Remarked (TookSnapshot life command database)) = PutBy life database
 deed_of (Remarked (Synced command copy)) = Gave copy
+deed_of (Remarked (TookAlarms life command alarms)) = PutAlarmsBy life alarms
+deed_of (Remarked (Audited command table notices)) = GaveTable table
+
+-- what a unit put by, by what is told of it
+abbrev pub put_by : ℕ → Note → Onu → Deed
+put_by life (note.Snapshot entities counter) before = PutBy life before.database
+put_by life (note.Alarms rows) before = PutAlarmsBy life before.log.alarms
 
 -- the deeds after what happened, newest first, where that packet came last
 abbrev pub with_happening : Happening → List ℕ → List Deed → List Deed
 with_happening (UnitCarried life reply before) packet older = Carried life reply before ∷ older
-with_happening (UnitNoted life note before) packet older = PutBy life before ∷ older
+with_happening (UnitNoted life note before) packet older = put_by life note before ∷ older
 with_happening (ReplyTaken lane) packet older = Took packet ∷ older
 with_happening (CopyTold copy) packet older = Gave copy ∷ older
+with_happening (TableTold table) packet older = GaveTable table ∷ older
 with_happening _ packet older = older
 
 abbrev pub packet_after : Happening → List ℕ → List ℕ

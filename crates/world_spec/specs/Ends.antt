@@ -11,19 +11,21 @@ use Rattle.script_spec.specs.Script.{Header}
 use Rattle.link_spec.specs.declared.Direction.{Direction}
 use Rattle.link_spec.specs.declared.Direction.TheVariants.{Down, Up}
 use Rattle.link_spec.specs.Link.{Sent}
-use Rattle.mib_spec.specs.Database.{Database}
 use Rattle.unit_spec.specs.declared.Did.{Did}
 use Rattle.unit_spec.specs.declared.Did.TheVariants as did
 use Rattle.unit_spec.specs.declared.Note.{Note}
 use Rattle.upload_spec.specs.Pieces.{Copy}
+use Rattle.unit_spec.specs.declared.Noticed.{Noticed}
+use Rattle.unit_spec.specs.declared.Noticed.TheVariants as noticed
 use Rattle.unit_spec.specs.Onu.{Onu, Reception, onu_started, onu_received, onu_ticked}
+use Rattle.unit_spec.specs.Noticing.{Noticing}
 use Rattle.manager_spec.specs.declared.Refusal.{Refusal}
 use Rattle.manager_spec.specs.declared.Report.{Report}
 use Rattle.manager_spec.specs.declared.Report.TheVariants as report
 use Rattle.manager_spec.specs.Manager.{Manager, Outcome, Sending, manager_started}
 use Rattle.manager_spec.specs.Submitting.{Submission}
 use Rattle.manager_spec.specs.Steps.{after_packet, after_tick}
-use Rattle.world_spec.specs.Happenings.{Happening, OfLane, OfArrival, UnitStarted, ManagerStarted, PacketCame, PacketSent, UnitCarried, UnitNoted, UnitKept, UnitDropped, CommandDrawn, JobAsked, ReplyTaken, CopyTold, Reported, Refused, NotEnabled}
+use Rattle.world_spec.specs.Happenings.{Happening, OfLane, OfArrival, OfNobody, UnitStarted, ManagerStarted, PacketCame, PacketSent, UnitCarried, UnitNoted, UnitKept, UnitDropped, CommandDrawn, JobAsked, ReplyTaken, NoticeTaken, CopyTold, TableTold, Reported, Refused, NotEnabled}
 
 -- how many lines of the script are done, how many lives the unit has had, the software in its slots, and the ends that are on
 pub record Ends : Type 0 where
@@ -93,22 +95,28 @@ if_asked false lane = []
 abbrev pub sends : Sending → List Happening
 sends s = if_drawn s.drawn s.lane ++ if_asked s.asks s.lane ++ map (goes_down s.lane) s.packets
 
--- the copy is told after the report of a resynchronisation
-abbrev pub copy_told : Report → Option Copy → List Happening
-copy_told (report.Synced entities counter) (Some copy) = CopyTold copy ∷ []
-copy_told _ copy = []
+abbrev pub copy_told : Option Copy → List Happening
+copy_told None = []
+copy_told (Some copy) = CopyTold copy ∷ []
 
-abbrev pub reported : Option Copy → Report → List Happening
-reported copy r = Reported r ∷ copy_told r copy
+-- the copy is told after the report of a resynchronisation, and the table after that of an audit
+abbrev pub result_told : Report → Manager → List Happening
+result_told (report.Synced entities counter) m = copy_told m.copy
+result_told (report.Audited rows) m = TableTold m.table.rows ∷ []
+result_told _ m = []
 
--- the manager may take a reply; its reports are taken out, and then its packets go onto the link
+abbrev pub report_told : Manager → Report → List Happening
+report_told m r = Reported r ∷ result_told r m
+
+-- the manager may take a reply or a notice; its reports are taken out, and then its packets go onto the link
 abbrev pub manager_did : Outcome → Ends → Step
 manager_did o e =
     record {
       ends = record e { manager = Some (record o.manager { reports = [] }) };
       happenings =
           map ReplyTaken o.taken
-          ++ flat_map (reported o.manager.copy) o.manager.reports
+          ++ map NoticeTaken o.noticed
+          ++ flat_map (report_told o.manager) o.manager.reports
           ++ flat_map sends o.sendings;
     }
 
@@ -137,16 +145,16 @@ manager_ticks (Some m) e = manager_did (after_tick m) e
 abbrev pub goes_up : List ℕ → Happening
 goes_up bytes = PacketSent OfArrival (record { direction = Up; bytes = bytes })
 
-abbrev pub noted : Option Note → ℕ → Database → List Happening
-noted None life before = []
-noted (Some note) life before = UnitNoted life note before ∷ []
+abbrev pub note_told : Option Note → ℕ → Onu → List Happening
+note_told None life before = []
+note_told (Some note) life before = UnitNoted life note before ∷ []
 
 -- what the unit did with what came, and its reply
 abbrev pub unit_deed : Did → List ℕ → Onu → ℕ → List Happening
 unit_deed did.Dropped reply before life = UnitDropped ∷ []
 unit_deed did.Kept reply before life = UnitKept ∷ goes_up reply ∷ []
 unit_deed (did.Carried note) reply before life =
-    UnitCarried life reply before.database ∷ noted note life before.database ++ goes_up reply ∷ []
+    UnitCarried life reply before.database ∷ note_told note life before ++ goes_up reply ∷ []
 
 abbrev pub unit_did : Reception → Onu → Ends → Step
 unit_did r before e =
@@ -158,6 +166,22 @@ unit_did r before e =
 abbrev pub unit_got : List Happening → List ℕ → Option Onu → Ends → Step
 unit_got first bytes None e = not_enabled e
 unit_got first bytes (Some u) e = preceded first (unit_did (onu_received bytes u) u e)
+
+-- ---- the unit notices something by itself
+
+abbrev pub notice_sent : Noticed → List ℕ → List Happening
+notice_sent noticed.NotAllowed packet = NotEnabled ∷ []
+notice_sent noticed.Same packet = []
+notice_sent noticed.Sent packet = PacketSent OfNobody (record { direction = Up; bytes = packet }) ∷ []
+
+abbrev pub unit_noticed : Noticing → Ends → Step
+unit_noticed n e =
+    record { ends = record e { unit = Some n.unit }; happenings = notice_sent n.noticed n.packet }
+
+-- a unit that is on notices a value or alarms
+abbrev pub unit_notices : (Onu → Noticing) → Option Onu → Ends → Step
+unit_notices call None e = not_enabled e
+unit_notices call (Some u) e = unit_noticed (call u) e
 
 -- ---- a packet comes to its end, or noise does
 

@@ -5,16 +5,19 @@ use Rattle.omci_types.specs.declared.Priority.{Priority}
 use Rattle.omci_types.specs.declared.Software.{Software}
 use Rattle.mib_spec.specs.Database.{Database}
 use Rattle.upload_spec.specs.Pieces.{Copy}
+use Rattle.alarm_spec.specs.Alarms.{Alarm, Alarms}
+use Rattle.unit_spec.specs.Onu.{Onu}
 use Rattle.unit_spec.specs.declared.Note.{Note}
 use Rattle.manager_spec.specs.declared.Refusal.{Refusal}
 use Rattle.manager_spec.specs.declared.Report.{Report}
 use Rattle.link_spec.specs.Link.{Sent, Link, sent_on, delivered_on, emptied}
 use Rattle.link_spec.specs.Held.{Held, held_sent, held_delivered, held_emptied}
 
--- whose packet it is: of the command that is outstanding in a lane, or of the command whose packet came
+-- whose packet it is: of the command that is outstanding in a lane, of the command whose packet came, or of none
 pub data Whose : Type 0 where
   OfLane : (lane : Priority) → Whose
   OfArrival : Whose
+  OfNobody : Whose
 
 pub data Happening : Type 0 where
   -- an end starts: the unit its so-manieth life with this software, or the manager
@@ -26,8 +29,8 @@ pub data Happening : Type 0 where
   PacketSent : (whose : Whose) (packet : Sent) → Happening
   -- in that life the unit carries out the request that came: its reply's packet, and the database before it
   UnitCarried : (life : ℕ) (reply : List ℕ) (before : Database) → Happening
-  -- what else is told of the request that was carried out in that life, on that database
-  UnitNoted : (life : ℕ) (note : Note) (before : Database) → Happening
+  -- what else is told of the request that was carried out in that life, by that unit before it
+  UnitNoted : (life : ℕ) (note : Note) (before : Onu) → Happening
   -- the unit gives the kept reply to what came, or does nothing with it
   UnitKept : Happening
   UnitDropped : Happening
@@ -37,8 +40,11 @@ pub data Happening : Type 0 where
   JobAsked : (lane : Priority) → Happening
   -- the manager takes what came as the reply to the lane's command, which isn't a probe
   ReplyTaken : (lane : Priority) → Happening
-  -- the copy that a resynchronisation has given
+  -- the manager takes an alarm notice
+  NoticeTaken : (notice : Alarm) → Happening
+  -- the copy that a resynchronisation has given, and the table that an audit has given
   CopyTold : (copy : Copy) → Happening
+  TableTold : (table : Alarms) → Happening
   -- the manager reports something, or refuses a submission
   Reported : (report : Report) → Happening
   Refused : (refusal : Refusal) → Happening

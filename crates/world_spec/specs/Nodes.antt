@@ -2,13 +2,15 @@
 use Rattle.std.specs.Prelude.{ℕ, zero, suc, ◌+◌, List, [], ◌∷◌, ◌++◌, Option, Some, None, is_some}
 use Rattle.message_spec.specs.declared.Request.TheVariants as request
 use Rattle.frame_spec.specs.Widths.{filled}
-use Rattle.script_spec.specs.Script.{Header, Action, Probe, Reset, Get, Create, Set, Delete, Resync, Check, Deliver, Flow, NoiseUnit, NoiseOlt, Tick, CutUnit, CutOlt, StartUnit, StartOlt}
+use Rattle.script_spec.specs.Script.{Header, Action, Probe, Reset, Get, Create, Set, Delete, Resync, Audit, Check, Deliver, Flow, NoiseUnit, NoiseOlt, Tick, Sense, Alarm, CutUnit, CutOlt, StartUnit, StartOlt}
 use Rattle.link_spec.specs.declared.Direction.TheVariants.{Down, Up}
 use Rattle.link_spec.specs.Link.{Sent, Link, empty_link, allowed, fresh}
 use Rattle.lane_spec.specs.Command.{sync_entity}
-use Rattle.manager_spec.specs.Submitting.{after_probe, after_submit, after_check, after_resync}
+use Rattle.alarm_spec.specs.declared.TheConstants.{BITMAP_BYTES}
+use Rattle.unit_spec.specs.Noticing.{onu_sensed, onu_alarmed}
+use Rattle.manager_spec.specs.Submitting.{after_probe, after_submit, after_check, after_resync, after_audit}
 use Rattle.world_spec.specs.Happenings.{Happening, link_read}
-use Rattle.world_spec.specs.Ends.{Ends, Step, first_ends, still, not_enabled, submission, arrives, noise, second, cut_unit, cut_manager, start_unit, start_manager}
+use Rattle.world_spec.specs.Ends.{Ends, Step, first_ends, still, not_enabled, submission, arrives, noise, second, unit_notices, cut_unit, cut_manager, start_unit, start_manager}
 
 pub record Nodes : Type 0 where
   pub ends : Ends
@@ -69,12 +71,15 @@ acted (Set lane entity mask values) n =
     submission (after_submit lane entity (request.Set mask (filled 30 values))) n.ends.manager n.ends
 acted (Delete lane entity) n = submission (after_submit lane entity request.Delete) n.ends.manager n.ends
 acted Resync n = submission after_resync n.ends.manager n.ends
+acted Audit n = submission after_audit n.ends.manager n.ends
 acted Check n = submission after_check n.ends.manager n.ends
 acted (Deliver number) n = delivery number n
 acted (Flow times) n = flow times n
 acted (NoiseUnit bytes) n = noise Down bytes n.ends
 acted (NoiseOlt bytes) n = noise Up bytes n.ends
 acted Tick n = second n.ends
+acted (Sense entity number value) n = unit_notices (onu_sensed entity number value) n.ends.unit n.ends
+acted (Alarm entity bitmap) n = unit_notices (onu_alarmed entity (filled BITMAP_BYTES bitmap)) n.ends.unit n.ends
 acted CutUnit n = cut_unit n.ends.unit n.ends
 acted CutOlt n = cut_manager n.ends.manager n.ends
 acted StartUnit n = start_unit n.ends.unit n.ends

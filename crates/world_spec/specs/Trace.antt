@@ -8,7 +8,7 @@ use Rattle.omci_types.specs.declared.EntityId.{EntityId}
 use Rattle.omci_types.specs.declared.SlotView.{SlotView}
 use Rattle.omci_types.specs.declared.Priority.{Priority}
 use Rattle.omci_types.specs.declared.Priority.TheVariants.{Low, High}
-use Rattle.message_spec.specs.Text.{message_text}
+use Rattle.message_spec.specs.Text.{message_text, contents_text}
 use Rattle.frame_spec.specs.Baseline.{frame_of}
 use Rattle.script_spec.specs.Script.{Script, Action}
 use Rattle.link_spec.specs.declared.Direction.{Direction}
@@ -16,6 +16,7 @@ use Rattle.link_spec.specs.declared.Direction.TheVariants.{Down, Up}
 use Rattle.link_spec.specs.Link.{count}
 use Rattle.mib_spec.specs.Database.{Values, bytes_of}
 use Rattle.upload_spec.specs.Pieces.{mask_of}
+use Rattle.alarm_spec.specs.Alarms.{Alarm}
 use Rattle.unit_spec.specs.declared.Note.{Note}
 use Rattle.unit_spec.specs.declared.Note.TheVariants as note
 use Rattle.manager_spec.specs.declared.Phase.{Phase}
@@ -24,13 +25,15 @@ use Rattle.manager_spec.specs.declared.Job.{Job}
 use Rattle.manager_spec.specs.declared.Job.TheVariants as job
 use Rattle.manager_spec.specs.declared.ResyncReason.{ResyncReason}
 use Rattle.manager_spec.specs.declared.ResyncReason.TheVariants as reason
+use Rattle.manager_spec.specs.declared.AuditReason.{AuditReason}
+use Rattle.manager_spec.specs.declared.AuditReason.TheVariants as audit
 use Rattle.manager_spec.specs.declared.Refusal.{Refusal}
 use Rattle.manager_spec.specs.declared.Refusal.TheVariants as refusal
 use Rattle.manager_spec.specs.declared.Report.{Report}
 use Rattle.manager_spec.specs.declared.Report.TheVariants as report
 use Rattle.world_spec.specs.declared.Effect.{Effect}
 use Rattle.world_spec.specs.declared.Effect.TheVariants as effect
-use Rattle.world_spec.specs.Happenings.{Happening, UnitStarted, PacketSent, UnitCarried, UnitNoted, UnitKept, UnitDropped, CopyTold, Reported, Refused, NotEnabled, next_after}
+use Rattle.world_spec.specs.Happenings.{Happening, UnitStarted, PacketSent, UnitCarried, UnitNoted, UnitKept, UnitDropped, CopyTold, TableTold, Reported, Refused, NotEnabled, next_after}
 use Rattle.world_spec.specs.Ends.{factory_software}
 use Rattle.world_spec.specs.Nodes.{Nodes, Turn, step, first_nodes}
 
@@ -60,6 +63,7 @@ phase_text phase.Out = codes "out"
 
 abbrev pub job_text : Job → List ℕ
 job_text job.Resync = codes "resync"
+job_text job.Audit = codes "audit"
 
 abbrev pub entity_text : EntityId → List ℕ
 entity_text one = decimal one.class ++ codes " " ++ decimal one.instance
@@ -71,6 +75,17 @@ reason_text (reason.Truncated one) = codes "truncated " ++ entity_text one
 reason_text (reason.Repeated one attribute) =
     codes "repeated " ++ entity_text one ++ codes " " ++ decimal attribute
 reason_text reason.Missing = codes "missing"
+
+-- a gap in the numbers of notices
+abbrev pub gap_text : (want have : ℕ) → List ℕ
+gap_text want have = codes "gap " ++ decimal want ++ codes " " ++ decimal have
+
+abbrev pub audit_reason_text : AuditReason → List ℕ
+audit_reason_text (audit.GaveUp tci) = codes "gave-up " ++ tci_text tci
+audit_reason_text audit.Empty = codes "empty"
+audit_reason_text (audit.Repeated one) = codes "repeated " ++ entity_text one
+audit_reason_text (audit.Gap want have) = gap_text want have
+audit_reason_text audit.Overflow = codes "overflow"
 
 abbrev pub refusal_text : Refusal → List ℕ
 refusal_text (refusal.Unproven lane) = codes "unproven " ++ lane_text lane
@@ -92,11 +107,21 @@ report_text report.PhaseOut = codes "phase out"
 report_text (report.ResyncFailed why) = codes "resync failed " ++ reason_text why
 report_text (report.Checked given expected) =
     codes "checked " ++ decimal given ++ codes " " ++ decimal expected
+report_text (report.Audited rows) = codes "audited " ++ decimal rows
+report_text (report.AuditFailed why) = codes "audit failed " ++ audit_reason_text why
+report_text (report.AlarmTaken number) = codes "notice " ++ decimal number
+report_text (report.AlarmRepeat number) = codes "repeat " ++ decimal number
+report_text (report.AlarmGap want have) = gap_text want have
+report_text (report.AlarmOverflow number) = codes "overflow " ++ decimal number
+report_text (report.AlarmUnaudited number) = codes "unaudited " ++ decimal number
+report_text (report.Change notice) =
+    codes "change " ++ entity_text notice.entity ++ codes " " ++ contents_text notice.contents
 report_text report.Dropped = codes "dropped"
 
 abbrev pub note_text : Note → List ℕ
 note_text (note.Snapshot entities counter) =
     codes "snapshot " ++ decimal entities ++ codes " " ++ decimal counter
+note_text (note.Alarms rows) = codes "alarms " ++ decimal rows
 
 unfoldable pub effect_text : Effect → List ℕ
 effect_text (effect.UnitStarted life s) =
@@ -133,6 +158,17 @@ entry_line event one mask bytes =
 abbrev pub copy_line : ℕ → EntityId × Values → List ℕ
 copy_line event one = entry_line event one.0 (mask_of one.1) (bytes_of one.1)
 
+-- an entity of a table, and its bitmap without the zeros at its end
+unfoldable pub row_text : EntityId → (bitmap : List ℕ) → List ℕ
+row_text one bitmap = codes "row " ++ entity_text one ++ codes " " ++ contents_text bitmap
+
+-- its line
+unfoldable pub row_line : ℕ → EntityId → (bitmap : List ℕ) → List ℕ
+row_line event one bitmap = decimal event ++ codes " " ++ row_text one bitmap ++ codes "\n"
+
+abbrev pub alarm_line : ℕ → Alarm → List ℕ
+alarm_line event one = row_line event one.0 one.1
+
 -- ---- the trace's reading of what happens
 
 -- what is seen of it, if anything, where that is the number of the next packet
@@ -152,9 +188,10 @@ abbrev pub line_if : ℕ → Option Effect → List ℕ
 line_if event None = []
 line_if event (Some e) = line_text event e
 
--- its lines: one for each entity of a copy that is told, one for an effect, or none
+-- its lines: one for each entity of a copy or of a table that is told, one for an effect, or none
 abbrev pub happening_text : ℕ → ℕ → Happening → List ℕ
 happening_text event next (CopyTold copy) = flat_map (copy_line event) copy
+happening_text event next (TableTold table) = flat_map (alarm_line event) table
 happening_text event next h = line_if event (effect_of next h)
 
 -- the lines of one event, whose first packet has that number

@@ -1,4 +1,4 @@
-use Rattle.resync_laws.proofs.Runs.{Promises, history_synced, reached_whole}
+use Rattle.resync_laws.proofs.Runs.{history_synced, reached_whole}
 use Rattle.resync_laws.proofs.copies_are_snapshots.Goals as goal
 
 pub returns-clause-synced : goal.returns-clause-synced

@@ -1,4 +1,4 @@
-use Rattle.resync_laws.proofs.Databases.{first_whole, create_whole, delete_whole, set_whole, reset_whole}
+use Rattle.resync_laws.proofs.Databases.{first_whole, create_whole, delete_whole, set_whole, reset_whole, sense_whole}
 use Rattle.resync_laws.proofs.databases_stay_whole.Goals as goal
 
 pub returns-clause-first : goal.returns-clause-first
@@ -15,3 +15,6 @@ returns-clause-set c one mask given database h = set_whole one mask given databa
 
 pub returns-clause-reset : goal.returns-clause-reset
 returns-clause-reset c database h = reset_whole database h
+
+pub returns-clause-sense : goal.returns-clause-sense
+returns-clause-sense c one number value database h = sense_whole one number value database h

@@ -1,6 +1,9 @@
-use Rattle.omci_top.proofs.AnswerLemmas.{AnswersReplay-ends}
+use Rattle.omci_top.proofs.AnswerLemmas.{laws_hold, AnswersReplay-ends}
 use Rattle.omci_top.proofs.replay.replay.Goals as goal
 
 pub returns-in-Ok-clause-answers : goal.returns-in-Ok-clause-answers
 returns-in-Ok-clause-answers g c =
-    AnswersReplay-ends c.commands_act_once.ensures.once c.commands_act_once.ensures.answered c.copies_are_snapshots.ensures.synced c.answer.result.status c.answer.result.world c.in-Ok.input.items _ _ _ _ _ _ _ _ c.in-Ok.ensures.whole c.in-Ok.ensures.kept c.answer.ensures.ends
+    AnswersReplay-ends
+    (laws_hold c.commands_act_once.ensures.once c.commands_act_once.ensures.answered
+    c.copies_are_snapshots.ensures.synced c.audits_are_snapshots.ensures
+    c.copies_keep_step.ensures.script) c.answer.result.status c.answer.result.world c.in-Ok.input.items _ _ _ _ _ _ _ _ c.in-Ok.ensures.whole c.in-Ok.ensures.kept c.answer.ensures.ends

@@ -1,8 +1,13 @@
-use Rattle.mib_store.proofs.Storage.{first_index, first_view}
+use Rattle.std.proofs.Common.{◌∙◌, ap, length, length-take, arith, rules}
+use Rattle.std.proofs.lemmas.List.{take_all}
+use Rattle.mib_store.proofs.Places.{filled_next}
 use Rattle.mib_store.proofs.table.Table.of.Goals as goal
 
-pub invariant_of-result : goal.invariant_of-result
-invariant_of-result c = first_index c.in_ok-made.made.items c.args.entries.now c.in_ok-order.order.items 11 c.told-entries c.in_ok-made.ensures.items c.in_ok-order.ensures.items
+pub insert-requires : goal.insert-requires
+insert-requires c = omega (arith, ap length c.loop-at.invariant, length-take c.loop-at.at c.args.entries.now, c.told-entries)
+
+pub loop-at-preserved : goal.loop-at-preserved
+loop-at-preserved c = c.in_ok-insert.ensures.ok ∙ filled_next c.loop-at.made c.args.entries.now c.loop-at.at _ (omega (arith, c.told-entries)) (search rules) c.loop-at.invariant
 
 pub returns : goal.returns
-returns c = first_view c.in_ok-made.made.items c.args.entries.now c.in_ok-order.order.items 11 c.told-entries c.in_ok-made.ensures.items c.in_ok-order.ensures.items
+returns c = c.loop-at.invariant ∙ take_all c.loop-at.at c.args.entries.now (omega (arith, c.told-entries))

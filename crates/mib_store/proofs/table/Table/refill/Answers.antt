@@ -1,8 +1,6 @@
-use Rattle.mib_store.proofs.Storage.{first_index, first_view}
+use Rattle.std.proofs.Common.{◌∙◌, ap, length, arith}
+use Rattle.std.proofs.lemmas.List.{length-take-le}
 use Rattle.mib_store.proofs.table.Table.refill.Goals as goal
 
-pub invariant_of-self : goal.invariant_of-self
-invariant_of-self c = first_index c.overwrite.new.into.items c.args.entries.now c.overwrite-2.new.into.items 11 c.told-entries c.overwrite.ensures c.overwrite-2.ensures
-
-pub returns : goal.returns
-returns c = first_view c.overwrite.new.into.items c.args.entries.now c.overwrite-2.new.into.items 11 c.told-entries c.overwrite.ensures c.overwrite-2.ensures
+pub overwrite-requires : goal.overwrite-requires
+overwrite-requires c = ap length c.truncate.ensures.front ∙ length-take-le 11 c.self.inside.entries (omega (arith, c.requires, ap length c.self.view_is))

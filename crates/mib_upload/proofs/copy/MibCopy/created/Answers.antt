@@ -17,5 +17,5 @@ returns-then-is_onu_data-clause-ok c =
 pub returns-clause-ok : goal.returns-clause-ok
 returns-clause-ok c =
     let on = and_on (is_class c.args.entity.class) (not (is_onu_data c.args.entity)) (is_there c.args.entity.class c.in-Some.class (sym c.in-Some.ensures.row)) (ap not (sym c.is_onu_data.ensures ∙ c.if-is_onu_data.false)) in
-    subst (λ d. OnOk c.put_part.result (copy_of c.put_part.new.parts.items ≡ after_create c.args.entity c.args.values.now d)) c.self.view_is
-    (created_ok c.put_part.result c.args.entity c.args.values.now c.new_part.result (copy_of c.self.inside.parts.items) (copy_of c.put_part.new.parts.items) c.put_part.ensures.ok c.new_part.ensures.values on)
+    subst (λ d. OnOk c.put_part.result (copy_of c.put_part.new.parts ≡ after_create c.args.entity c.args.values.now d)) c.self.view_is
+    (created_ok c.put_part.result c.args.entity c.args.values.now c.new_part.result (copy_of c.self.inside.parts) (copy_of c.put_part.new.parts) c.put_part.ensures.ok c.new_part.ensures.values on)

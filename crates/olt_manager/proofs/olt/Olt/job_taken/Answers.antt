@@ -1,6 +1,7 @@
 -- The job that ran is replaced by what the reply makes of it.
 use Rattle.std.proofs.Common.{rules}
 use Rattle.olt_manager.proofs.Gathered.{upload_came, next_came}
+use Rattle.olt_manager.proofs.Rows.{alarms_came, next_row_came}
 use Rattle.olt_manager.proofs.olt.Olt.job_taken.Goals as goal
 
 pub returns-in_ok-gather_on-in-Some-Asking-Some-Upload :
@@ -20,5 +21,24 @@ returns-in_ok-piece_came-in-Some-Gathering-Some-UploadNext c =
     record {
       manager = next_came c.args.self.now c.piece_came.new.self _ c.args.frame.now
           it.gather.expected it.next it.gather.copy it.piece
+          (search rules) (search rules) (search rules);
+    }
+
+pub returns-in_ok-begin_rows-in-Some-AskingAlarms-Some-Alarms :
+    goal.returns-in_ok-begin_rows-in-Some-AskingAlarms-Some-Alarms
+returns-in_ok-begin_rows-in-Some-AskingAlarms-Some-Alarms c =
+    record {
+      manager = alarms_came c.args.self.now c.begin_rows.new.self _ c.args.frame.now
+          c.in-Some-AskingAlarms-Some-Alarms.count
+          (search rules) (search rules) (search rules);
+    }
+
+pub returns-in_ok-row_came-in-Some-GatheringRows-Some-AlarmsNext :
+    goal.returns-in_ok-row_came-in-Some-GatheringRows-Some-AlarmsNext
+returns-in_ok-row_came-in-Some-GatheringRows-Some-AlarmsNext c =
+    let it = c.in-Some-GatheringRows-Some-AlarmsNext in
+    record {
+      manager = next_row_came c.args.self.now c.row_came.new.self _ c.args.frame.now
+          it.expected it.next it.row
           (search rules) (search rules) (search rules);
     }

@@ -1,4 +1,4 @@
-use Rattle.std.proofs.Common.{◌≡◌, subst, sym, ◌∙◌}
+use Rattle.std.proofs.Common.{subst, sym}
 use Rattle.onu_agent.specs.State.{AreFrames}
 use Rattle.onu_agent.proofs.Replies.{kept_whole}
 use Rattle.onu_agent.proofs.unit.Unit.give.Goals as goal

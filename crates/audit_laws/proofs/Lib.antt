@@ -1,0 +1,12 @@
+mod Known
+mod Reading
+mod Invariants
+mod Telling
+mod Going
+mod Rows
+mod Taking
+mod Turns
+mod Serving
+mod Lines
+mod Runs
+mod Worked

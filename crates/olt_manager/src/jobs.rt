@@ -1,0 +1,93 @@
+//! A job that runs: what it waits for, how a give-up ends it, and what it sends next.
+
+ghost use Rattle.std.specs.Prelude.{◌≡◌, ◌++◌, option_map, OnOk, IfSome};
+ghost use Rattle.message_spec.specs.Reading.{RequestWindow};
+ghost use Rattle.manager_spec.specs.Manager.{packets_of};
+ghost use Rattle.manager_spec.specs.Jobs.{job_lost, waits_for, wish_in, is_free, job_goes_on};
+ghost use Rattle.olt_manager.specs.State.{AreFrames};
+ghost use Rattle.olt_manager.specs.Stages.{with_wish};
+
+use crate::olt::Olt;
+use crate::stage::{Stage, job_of};
+use class_spec::ONU_DATA;
+use manager_spec::{AuditReason, Job, ResyncReason};
+use olt_lanes::{Command, Lane};
+use omci_contents::Request;
+use omci_core::{NoMemory, Packets, Priority};
+
+/// Whether the job may send over a lane.
+fn is_free(lane: &Lane) -> bool
+    ensures value { result ≡ is_free lane.now }
+{
+    !lane.unproven() && lane.outstanding().is_none()
+}
+
+impl Olt {
+    /// The command that the job waited for was given up, and the job has failed.
+    pub fn lose_job(&mut self, tci: u16) -> Result<(), NoMemory>
+        ensures manager { OnOk result (self.new ≡ job_lost self.old.job tci self.old) }
+    {
+        match &self.job {
+            None => Ok(()),
+            Some(stage) => match job_of(stage) {
+                Job::Resync => self.fail_resync(ResyncReason::GaveUp { tci }),
+                Job::Audit => self.fail_audit(AuditReason::GaveUp { tci }),
+            },
+        }
+    }
+
+    /// Whether the job waits for the lane's command.
+    pub fn waits_for(&self, priority: Priority) -> bool
+        ensures value { result ≡ waits_for priority self.now.job }
+    {
+        match (&self.job, priority) {
+            (None, _) => false,
+            (Some(Stage::Probing { high, .. }), Priority::High) => *high,
+            (Some(Stage::Probing { low, .. }), Priority::Low) => *low,
+            (Some(Stage::Asking), Priority::Low) => true,
+            (Some(Stage::Gathering { .. }), Priority::Low) => true,
+            (Some(Stage::AskingAlarms), Priority::Low) => true,
+            (Some(Stage::GatheringRows { .. }), Priority::Low) => true,
+            (Some(_stage), Priority::High) => false,
+        }
+    }
+
+    /// What the job asks next, if anything; its stage is then the one that the request begins.
+    fn next_request(&mut self) -> Option<Request>
+        ensures request { result ≡ option_map (λ w. w.request) (wish_in self.old.job) }
+        ensures manager { self.new ≡ with_wish (wish_in self.old.job) self.old }
+        ensures window { IfSome result (λ request. RequestWindow request) }
+    {
+        match &self.job {
+            Some(
+                Stage::Probing {
+                    high: false,
+                    low: false,
+                },
+            ) => {
+                self.job = Some(Stage::Asking);
+                Some(Request::Upload)
+            }
+            Some(Stage::Gathering { next, .. }) => Some(Request::UploadNext { number: *next }),
+            Some(Stage::GatheringRows { next, .. }) => Some(Request::AlarmsNext { number: *next }),
+            _ => None,
+        }
+    }
+
+    /// The low lane, where it is free, sends what the job wants next.
+    #[tactic(auto, unfolding(manager_spec::specs::Jobs::job_goes_on))]
+    pub fn job_goes_on(&mut self, out: &mut Packets) -> Result<(), NoMemory>
+        ensures manager { OnOk result (self.new ≡ (job_goes_on self.old).manager) }
+        ensures packets { OnOk result
+            (out.new ≡ out.old ++ packets_of (job_goes_on self.old).sendings) }
+        ensures whole { OnOk result (AreFrames (packets_of (job_goes_on self.old).sendings)) }
+    {
+        if !is_free(&self.low) {
+            return Ok(());
+        }
+        if let Some(request) = self.next_request() {
+            self.send(Priority::Low, Command::job(ONU_DATA, request), out)?;
+        }
+        Ok(())
+    }
+}

@@ -1,0 +1,635 @@
+-- Packets that come to the manager.
+use Rattle.std.proofs.Common.{◌≡◌, ◌≢◌, ℕ, ◌+◌, ◌≤◌, Bool, true, false, List, [], ◌∷◌, ◌++◌, length}
+use Rattle.std.proofs.Common.{Option, Some, None, ◌⊎◌, inl, inr, refl, sym, ap, subst, ◌∙◌, arith}
+use Rattle.std.proofs.Common.{nat_le, is_some, Result, Ok, Err}
+use Rattle.std.proofs.lemmas.Option.{same_Some}
+use Rattle.std.proofs.lemmas.Bool.{false≢true}
+use Rattle.std.specs.List.{flat_map}
+use Rattle.omci_types.specs.declared.Frame.{Frame}
+use Rattle.omci_types.specs.declared.Priority.{Priority}
+use Rattle.omci_types.specs.declared.Priority.TheVariants.{Low, High}
+use Rattle.tci_spec.specs.Tci.{priority_of, packet_tci}
+use Rattle.frame_spec.specs.Baseline.{packet_frame}
+use Rattle.message_spec.specs.declared.Response.{Response}
+use Rattle.message_spec.specs.declared.Response.TheVariants as response
+use Rattle.message_spec.specs.declared.Message.{Message}
+use Rattle.message_spec.specs.declared.Message.TheVariants.{Asked, Answered, Told as ToldOf}
+use Rattle.message_spec.specs.declared.ContentsFault.{ContentsFault}
+use Rattle.message_spec.specs.declared.Notice.{Notice}
+use Rattle.message_spec.specs.declared.Notice.TheVariants as notices
+use Rattle.message_spec.specs.Reading.{message_of}
+use Rattle.alarm_spec.specs.declared.BadRow.{BadRow}
+use Rattle.alarm_spec.specs.declared.BadRow.TheVariants as bad
+use Rattle.alarm_spec.specs.declared.TakenAlarm.{TakenAlarm}
+use Rattle.alarm_spec.specs.declared.TakenAlarm.TheVariants as taken
+use Rattle.alarm_spec.specs.Table.{Table, take_answer, after_take, begun, gathered, row_fault}
+use Rattle.alarm_spec.specs.Table.{after_row, finished}
+use Rattle.omci_types.specs.declared.EntityId.{EntityId}
+use Rattle.upload_spec.specs.declared.PieceFault.{PieceFault}
+use Rattle.upload_spec.specs.declared.PieceFault.TheVariants as fault
+use Rattle.upload_spec.specs.Pieces.{Copy}
+use Rattle.upload_spec.specs.Copies.{with_piece, piece_fault, copied_counter, copy_counter}
+use Rattle.link_spec.specs.Link.{Sent, Link, lane_of}
+use Rattle.lane_spec.specs.declared.Purpose.{Purpose}
+use Rattle.lane_spec.specs.declared.Purpose.TheVariants as purpose
+use Rattle.lane_spec.specs.Command.{is_probe, is_changing}
+use Rattle.lane_spec.specs.Lane.{Lane, Waiting, end_command}
+use Rattle.manager_spec.specs.declared.Phase.TheVariants as phase
+use Rattle.manager_spec.specs.declared.ResyncReason.{ResyncReason}
+use Rattle.manager_spec.specs.declared.ResyncReason.TheVariants as reason
+use Rattle.manager_spec.specs.declared.AuditReason.{AuditReason}
+use Rattle.manager_spec.specs.declared.AuditReason.TheVariants as audit
+use Rattle.manager_spec.specs.declared.Report.{Report}
+use Rattle.manager_spec.specs.declared.Report.TheVariants as report
+use Rattle.manager_spec.specs.Manager.{Stage, Probing, Asking, Gathering, AskingAlarms}
+use Rattle.manager_spec.specs.Manager.{GatheringRows, Manager, Outcome, lane_in, with_lane}
+use Rattle.manager_spec.specs.Manager.{with_report, sends_nothing, and_then}
+use Rattle.manager_spec.specs.Resync.{with_job, resync_failed, resync_done, done_if_counted}
+use Rattle.manager_spec.specs.Resync.{gather_unless_all, gather_on, piece_by}
+use Rattle.manager_spec.specs.Audit.{with_table, audit_failed, audit_done, rows_unless_all, rows_on}
+use Rattle.manager_spec.specs.Audit.{row_by, notice_taken, audit_lost, alarm_as, alarm_came}
+use Rattle.manager_spec.specs.Audit.{notice_came}
+use Rattle.manager_spec.specs.Jobs.{job_goes_on}
+use Rattle.manager_spec.specs.Steps.{response_of, with_taken, probe_taken, followed_by, checked_by}
+use Rattle.manager_spec.specs.Steps.{freed, upload_by, piece_by_reply, alarms_by, row_by_reply}
+use Rattle.manager_spec.specs.Steps.{job_by, taken_as, packet_dropped, not_taken, after_packet}
+use Rattle.unit_spec.specs.Onu.{Onu}
+use Rattle.history_spec.specs.History.{WasCarried, LastSnapshot, SyncedRight}
+use Rattle.world_spec.specs.Ends.{report_told}
+use Rattle.world_spec.specs.History.{Told, drawn_in, tell_all}
+use Rattle.resync_laws.proofs.Reading.{tci_read}
+use Rattle.resync_laws.proofs.Invariants.{is_job}
+use Rattle.resync_laws.proofs.Telling.{is_synced, NoneSynced, none_more, did_told, Did, synced_told}
+use Rattle.resync_laws.proofs.Telling.{audited_told}
+use Rattle.resync_laws.proofs.Taking.{fails, fails_audit, mild_followed, mild_checked, took_told}
+use Rattle.step_laws.proofs.Coming.{Coming}
+use Rattle.step_laws.proofs.Reading.{Changes, changes_of}
+use Rattle.step_laws.proofs.Parts.{out_in, last_in, NoPacket, IsPut, IsCalm, AtStep, Steady}
+use Rattle.step_laws.proofs.Parts.{has_asked, is_resync, is_probed, is_barred, probed_resync}
+use Rattle.step_laws.proofs.Parts.{resync_bars}
+use Rattle.step_laws.proofs.Milder.{milder_steady, rejob_steady}
+use Rattle.step_laws.proofs.Sending.{not_both}
+use Rattle.step_laws.proofs.Turning.{Like, like_same, like_then, like_report, like_failed}
+use Rattle.step_laws.proofs.Turning.{like_unaudited, like_checked, like_milder, over_milder}
+use Rattle.step_laws.proofs.Turning.{IsTaken, Takes, takes}
+use Rattle.step_laws.proofs.Taking.{IsOwn, noticed_steady, took_steady, audited_steady}
+use Rattle.step_laws.proofs.Taking.{submission_steady, probed_steady, gathering_step, synced_steady}
+use Rattle.step_laws.proofs.Going.{StepsTo, steps_after, steps_quiet, then_goes}
+use Rattle.step_laws.proofs.Turns.{out_is}
+
+pub last_is : (lane : Priority) (t : Told) → drawn_in lane t ≡ last_in lane t
+last_is Low t = refl
+last_is High t = refl
+
+-- ---- what is known of a reply that may be taken
+
+-- no request that may come in the lane is of an older command than the last
+abbrev pub IsFenced : Priority → ℕ → Sent → ℕ → Type 0
+IsFenced lane last s name = lane_of s.bytes ≡ lane → last ≤ name
+
+pub record Heard (l : Priority) (w : Waiting) (link : Link) (lives : ℕ) (t : Told)
+    (bytes : List ℕ) : Type 0 where
+  pub own : is_probe w.command.purpose ≡ false → IsOwn lives (last_in l t) t.history bytes
+  pub fence : Coming (IsFenced l (last_in l t)) link t.names
+
+abbrev pub IsHeard : Link → ℕ → Manager → Told → List ℕ → Type 0
+IsHeard link lives m t bytes =
+    (l : Priority) (w : Waiting) → out_in l m ≡ Some w → packet_tci bytes ≡ w.tci
+    → priority_of (packet_tci bytes) ≡ l → Heard l w link lives t bytes
+
+-- ---- what becomes of a job
+
+-- a manager that reports no resynchronisation that ended well
+record Quietly (m a : Manager) : Type 0 where
+  like : Like m a
+  told : NoneSynced m.reports → NoneSynced a.reports
+
+-- it gathers, where it has asked
+record Gathers (m a : Manager) : Type 0 where
+  expected : ℕ
+  next : ℕ
+  copy : Copy
+  is : a ≡ with_job (Some (Gathering expected next copy)) m
+
+record Syncs (m a : Manager) : Type 0 where
+  copy : Copy
+  is : a ≡ resync_done copy m
+
+abbrev Turns : Manager → Manager → Type 0
+Turns m a = Quietly m a ⊎ (Gathers m a ⊎ Syncs m a)
+
+quiet_report : (r : Report) (m : Manager) → NoneSynced (r ∷ []) → Quietly m (with_report r m)
+quiet_report r m n = record { like = like_report r m; told = λ k. none_more m.reports r k n.0 }
+
+quiet_failed : (why : ResyncReason) (m : Manager) → Quietly m (resync_failed why m)
+quiet_failed why m = record { like = like_failed why m; told = (fails why m).reports }
+
+turns_if : (b : Bool) (copy : Copy) (m : Manager) → Turns m (done_if_counted b copy m)
+turns_if true copy m = inr (inr (record { copy = copy; is = refl }))
+turns_if false copy m = inl (quiet_failed reason.Missing m)
+
+turns_unless : (b : Bool) (expected next : ℕ) (copy : Copy) (m : Manager)
+    → Turns m (gather_unless_all b expected next copy m)
+turns_unless true expected next copy m = turns_if (is_some (copied_counter copy)) copy m
+turns_unless false expected next copy m =
+    inr (inl (record { expected = expected; next = next; copy = copy; is = refl }))
+
+turns_on : (expected next : ℕ) (copy : Copy) (m : Manager)
+    → Turns m (gather_on expected next copy m)
+unfolding gather_on
+turns_on expected next copy m = turns_unless (nat_le expected next) expected next copy m
+
+turns_piece : (o : Option PieceFault) (expected next : ℕ) (piece : List ℕ) (copy : Copy)
+    (m : Manager) → Turns m (piece_by o expected next piece copy m)
+turns_piece None expected next piece copy m = turns_on expected (next + 1) (with_piece piece copy) m
+turns_piece (Some fault.Empty) expected next piece copy m = inl (quiet_failed reason.Empty m)
+turns_piece (Some (fault.ClassUnknown class)) expected next piece copy m =
+    turns_on expected (next + 1) copy m
+turns_piece (Some (fault.Truncated one)) expected next piece copy m =
+    inl (quiet_failed (reason.Truncated one) m)
+turns_piece (Some (fault.Repeated one attribute)) expected next piece copy m =
+    inl (quiet_failed (reason.Repeated one attribute) m)
+
+turns_freed : (f : Frame) (m : Manager) → Quietly m (freed f m)
+turns_freed f m = quiet_report (report.Freed f.tci) m (refl, tt)
+
+turns_upload : (o : Option Response) (f : Frame) (m : Manager) → Turns m (upload_by o f m)
+turns_upload (Some (response.Upload count)) f m = turns_on count 0 [] m
+turns_upload (Some _) f m = inl (turns_freed f m)
+turns_upload None f m = inl (turns_freed f m)
+
+turns_reply : (o : Option Response) (expected next : ℕ) (copy : Copy) (f : Frame) (m : Manager)
+    → Turns m (piece_by_reply o expected next copy f m)
+turns_reply (Some (response.UploadNext piece)) expected next copy f m =
+    turns_piece (piece_fault piece copy) expected next piece copy m
+turns_reply (Some _) expected next copy f m = inl (turns_freed f m)
+turns_reply None expected next copy f m = inl (turns_freed f m)
+
+-- ---- what becomes of an audit
+
+quiet_unaudited : (why : AuditReason) (m : Manager) → Quietly m (audit_failed why m)
+quiet_unaudited why m = record { like = like_unaudited why m; told = (fails_audit why m).reports }
+
+quiet_same : (m : Manager) → Quietly m m
+quiet_same m = record { like = like_same m; told = λ n. n }
+
+quiet_then : (m a b : Manager) → Quietly m a → Quietly a b → Quietly m b
+quiet_then m a b h k = record {
+  like = like_then m a b h.like k.like;
+  told =
+      λ n. k.told (h.told n);
+}
+
+quiet_table : (table : Table) (m : Manager) → Quietly m (with_table table m)
+quiet_table table m = record {
+  like = record { low = refl; high = refl; job = λ s e. e; was = λ e. e; copy = λ e. refl };
+  told = λ n. n;
+}
+
+quiet_audit : (job : Option Stage) (why : AuditReason) (m : Manager)
+    → Quietly m (audit_lost job why m)
+quiet_audit None why m = quiet_same m
+quiet_audit (Some (Probing high low)) why m = quiet_same m
+quiet_audit (Some Asking) why m = quiet_same m
+quiet_audit (Some (Gathering expected next copy)) why m = quiet_same m
+quiet_audit (Some AskingAlarms) why m = quiet_unaudited why m
+quiet_audit (Some (GatheringRows expected next)) why m = quiet_unaudited why m
+
+-- it gathers rows
+record GathersRows (m a : Manager) : Type 0 where
+  expected : ℕ
+  next : ℕ
+  table : Table
+  is : a ≡ with_job (Some (GatheringRows expected next)) (with_table table m)
+
+record Audits (m a : Manager) : Type 0 where
+  table : Table
+  is : a ≡ audit_done (with_table table m)
+
+abbrev AuditTurns : Manager → Manager → Type 0
+AuditTurns m a = Quietly m a ⊎ (GathersRows m a ⊎ Audits m a)
+
+audit_unless : (all : Bool) (expected next : ℕ) (table : Table) (m : Manager)
+    → AuditTurns m (rows_unless_all all expected next (with_table table m))
+audit_unless true expected next table m = inr (inr (record { table = table; is = refl }))
+audit_unless false expected next table m =
+    inr (inl (record { expected = expected; next = next; table = table; is = refl }))
+
+audit_on : (expected next : ℕ) (table : Table) (m : Manager)
+    → AuditTurns m (rows_on expected next (with_table table m))
+unfolding rows_on
+audit_on expected next table m = audit_unless (nat_le expected next) expected next table m
+
+audit_row : (o : Option BadRow) (expected next : ℕ) (row : List ℕ) (m : Manager)
+    → AuditTurns m (row_by o expected next row m)
+audit_row None expected next row m = audit_on expected (next + 1) (after_row row m.table) m
+audit_row (Some bad.Empty) expected next row m = inl (quiet_unaudited audit.Empty m)
+audit_row (Some (bad.Repeated one)) expected next row m =
+    inl (quiet_unaudited (audit.Repeated one) m)
+
+audit_begins : (o : Option Response) (f : Frame) (m : Manager) → AuditTurns m (alarms_by o f m)
+audit_begins (Some (response.Alarms count)) f m = audit_on count 0 (begun m.table) m
+audit_begins (Some _) f m = inl (turns_freed f m)
+audit_begins None f m = inl (turns_freed f m)
+
+audit_reply : (o : Option Response) (expected next : ℕ) (f : Frame) (m : Manager)
+    → AuditTurns m (row_by_reply o expected next f m)
+audit_reply (Some (response.AlarmsNext row)) expected next f m =
+    audit_row (row_fault row (gathered m.table)) expected next row m
+audit_reply (Some _) expected next f m = inl (turns_freed f m)
+audit_reply None expected next f m = inl (turns_freed f m)
+
+-- ---- a reply is taken
+
+abbrev Steps : Outcome → Link → ℕ → Option Onu → Told → Type 0
+Steps o link lives unit t = Did o link lives unit t → StepsTo o link lives unit t
+
+same_job : (l : Priority) (x : Lane) (m : Manager) → (with_lane l x m).job ≡ m.job
+same_job Low x m = refl
+same_job High x m = refl
+
+same_phase : (l : Priority) (x : Lane) (m : Manager) → (with_lane l x m).phase ≡ m.phase
+same_phase Low x m = refl
+same_phase High x m = refl
+
+same_reports : (l : Priority) (x : Lane) (m : Manager) → (with_lane l x m).reports ≡ m.reports
+same_reports Low x m = refl
+same_reports High x m = refl
+
+-- the lane's command is answered
+module _ (bytes : List ℕ) (f : Frame) (read : packet_frame bytes ≡ Some f) (m : Manager)
+    (link : Link) (lives : ℕ) (unit : Option Onu) (t : Told) (h : Steady link lives unit m t)
+    (quiet : m.reports ≡ []) (l : Priority) (w : Waiting) (waits : out_in l m ≡ Some w)
+    (heard : Heard l w link lives t bytes) where
+  abbrev ended : Manager
+  ended = with_lane l (end_command w (lane_in l m)) m
+
+  none_told : NoneSynced ended.reports
+  none_told = subst NoneSynced (sym (same_reports l (end_command w (lane_in l m)) m ∙ quiet)) tt
+
+  -- a command that isn't a submission is no change, while the manager is in step
+  mild_out : (p : Purpose) → w.command.purpose ≡ p → p ≢ purpose.Submission → m.phase ≡ phase.InStep
+      → is_changing w.command.request ≡ false
+  mild_out p e ne in_step = go (is_changing w.command.request) refl
+    where
+      go : (b : Bool) → is_changing w.command.request ≡ b → is_changing w.command.request ≡ false
+      go false g = g
+      go true g = absurd (ne (sym e ∙ ((h.phase in_step).phase.made l w waits g).submitted))
+
+  over_steady : (a : Manager) → Like ended a → (p : Purpose) → w.command.purpose ≡ p
+      → p ≢ purpose.Submission → Steady link lives unit a t
+  over_steady a k p e ne =
+      milder_steady link lives unit m a t
+      (over_milder l w (end_command w (lane_in l m)).proved m a waits k
+      (λ i. mild_out p e ne (sym (same_phase l (end_command w (lane_in l m)) m) ∙ k.was i))) h
+
+  quiet_steps : (a : Manager) → NoneSynced a.reports → Steady link lives unit a t
+      → StepsTo (and_then (with_taken l a) job_goes_on) link lives unit t
+  quiet_steps a none k =
+      then_goes (with_taken l a) link lives unit t (took_told l t) refl refl none refl
+      (took_steady l link lives unit a t k)
+
+  -- ---- a probe
+
+  -- no change may come in the lane any more
+  probed_calm : (s : Stage) → m.job ≡ Some s → is_resync s ≡ true → Coming (IsCalm l) link t.names
+  probed_calm s e resyncs = λ i x may way lane ch.
+      let low = heard.fence i x may way lane in
+      let k = (h.lanes l).newest i x may way in
+      let high = k.0 lane in
+      let bytes_are = k.1 w waits (omega (arith, low, high)) in
+      not_both _ (changes_of w.tci w.command (subst Changes bytes_are ch))
+      ((h.job s e).quiet l w (resync_bars l s resyncs) waits)
+
+  probe_steps : w.command.purpose ≡ purpose.Probe
+      → StepsTo (and_then (probe_taken l ended) job_goes_on) link lives unit t
+  probe_steps e =
+      let x : Manager = with_report (report.Proved l) ended in
+      then_goes (probe_taken l ended) link lives unit t t refl refl
+      (none_more ended.reports (report.Proved l) none_told refl) refl
+      (probed_steady l link lives unit x t
+      (λ s j. probed_calm s (sym (same_job l (end_command w (lane_in l m)) m) ∙ j))
+      (over_steady x (like_report (report.Proved l) ended) purpose.Probe e (λ z. cc)))
+
+  -- ---- a submission
+
+  submitted_steps : is_probe w.command.purpose ≡ false
+      → StepsTo (and_then (with_taken l
+      (followed_by w.command (response_of f) (with_report (report.Took f) ended))) job_goes_on) link
+      lives unit t
+  submitted_steps other =
+      let x : Manager = with_report (report.Took f) ended in
+      quiet_steps (followed_by w.command (response_of f) x)
+      ((mild_followed w.command (response_of f) x).reports
+      (none_more ended.reports (report.Took f) none_told refl))
+      (submission_steady l w link lives unit m t bytes f read waits (heard.own other) h)
+
+  -- ---- a check
+
+  checked_steps : w.command.purpose ≡ purpose.Check
+      → StepsTo (and_then (with_taken l (checked_by (response_of f) f ended)) job_goes_on) link
+      lives unit t
+  checked_steps e =
+      quiet_steps (checked_by (response_of f) f ended)
+      ((mild_checked (response_of f) f ended).reports none_told)
+      (over_steady (checked_by (response_of f) f ended)
+      (like_checked (response_of f) f ended) purpose.Check e (λ z. cc))
+
+-- ---- the job's reply, in the low lane
+
+module _ (bytes : List ℕ) (f : Frame) (read : packet_frame bytes ≡ Some f) (m : Manager)
+    (link : Link) (lives : ℕ) (unit : Option Onu) (t : Told) (h : Steady link lives unit m t)
+    (quiet : m.reports ≡ []) (w : Waiting) (waits : out_in Low m ≡ Some w)
+    (heard : Heard Low w link lives t bytes) (e : w.command.purpose ≡ purpose.Job)
+    (asking : m.job ≡ Some Asking → t.asking ≡ t.low) where
+  abbrev freed_low : Manager
+  freed_low = record m { low = end_command w m.low }
+
+  low_steady : (a : Manager) → Like freed_low a → Steady link lives unit a t
+  low_steady a k = over_steady bytes f read m link lives unit t h quiet Low w waits heard a k
+      purpose.Job e (λ z. cc)
+
+  ended_steady : Steady link lives unit freed_low (took_told Low t)
+  ended_steady = took_steady Low link lives unit freed_low t
+      (low_steady freed_low (like_same freed_low))
+
+  own : IsOwn lives t.low t.history bytes
+  own = heard.own (ap is_probe e)
+
+  none_left : (s : Stage) → m.job ≡ Some s → has_asked s ≡ true
+      → IsPut NoPacket t.asking link lives freed_low (took_told Low t)
+  none_left (Probing high low) j a = absurd (false≢true a)
+  none_left AskingAlarms j a = absurd (false≢true a)
+  none_left (GatheringRows expected next) j a = absurd (false≢true a)
+  none_left (Gathering expected next copy) j a =
+      (ended_steady.job (Gathering expected next copy) j).put refl
+  none_left Asking j a = record {
+    early = ((ended_steady.job Asking j).put refl).early;
+    packets = λ i x may way n. inr (subst (λ k. WasCarried lives k t.history)
+        (sym (asking j)) own.carried);
+    out = none_out;
+  }
+    where
+      none_out : (lane : Priority) (v : Waiting) → out_in lane freed_low ≡ Some v
+          → last_in lane t ≡ t.asking → ⊥
+      none_out Low v g n = cc
+      none_out High v g n = h.apart w v waits g (sym (n ∙ asking j))
+
+  quiet_turn : (a : Manager) → Quietly freed_low a
+      → StepsTo (and_then (with_taken Low a) job_goes_on) link lives unit t
+  quiet_turn a k =
+      quiet_steps bytes f read m link lives unit t h quiet Low w waits heard a
+      (k.told (subst NoneSynced (sym quiet) tt)) (low_steady a k.like)
+
+  gathers_turn : (s : Stage) → m.job ≡ Some s → has_asked s ≡ true
+      → (expected next : ℕ) (copy : Copy)
+      → StepsTo (and_then (with_taken Low
+      (with_job (Some (Gathering expected next copy)) freed_low)) job_goes_on) link lives unit t
+  gathers_turn s j a expected next copy =
+      let x : Manager = with_job (Some (Gathering expected next copy)) freed_low in
+      then_goes (with_taken Low x) link lives unit t (took_told Low t) refl refl
+      (subst NoneSynced (sym quiet) tt) refl
+      (rejob_steady link lives unit freed_low (Some (Gathering expected next copy))
+      (took_told Low t) ended_steady
+      (λ z g. subst (AtStep link lives unit x (took_told Low t))
+      (same_Some (Gathering expected next copy) z g)
+      (gathering_step link lives unit freed_low (took_told Low t) s a (ended_steady.job s j)
+      (none_left s j a) expected next copy (Some (Gathering expected next copy)))))
+
+  reports_are : (c : Copy) → tell_all
+      (flat_map (report_told (resync_done c freed_low))
+      ((m.reports ++ report.Synced (length c) (copy_counter c) ∷ []) ++ report.PhaseIn ∷ []))
+      (took_told Low t) ≡ synced_told c (took_told Low t)
+  reports_are c = ap (λ rs. tell_all (flat_map (report_told (resync_done c freed_low))
+      ((rs ++ report.Synced (length c) (copy_counter c) ∷ []) ++ report.PhaseIn ∷ []))
+      (took_told Low t)) quiet
+
+  -- the copy is the database that was put by
+  synced_last : (copy : Copy) → Did (and_then
+      (with_taken Low (resync_done copy freed_low)) job_goes_on) link lives unit t
+      → LastSnapshot t.asking copy t.history
+  unfolding job_goes_on
+  synced_last copy did =
+      let o = and_then (with_taken Low (resync_done copy freed_low)) job_goes_on in
+      let told = did_told o t (took_told Low t) (synced_told copy (took_told Low t)) refl
+      (reports_are copy) in
+      (subst (λ (u : Told). SyncedRight u.history) told did.right).0
+
+  syncs_turn : (s : Stage) → m.job ≡ Some s → has_asked s ≡ true → (copy : Copy)
+      → Steps (and_then (with_taken Low (resync_done copy freed_low)) job_goes_on) link lives unit t
+  unfolding job_goes_on
+  syncs_turn s j a copy did =
+      steps_after (and_then (with_taken Low (resync_done copy freed_low)) job_goes_on) link lives
+      unit t (took_told Low t) (synced_told copy (took_told Low t)) refl
+      (reports_are copy)
+      (synced_steady link lives unit freed_low (took_told Low t) s a (ended_steady.job s j)
+      (none_left s j a) copy (synced_last copy did) ended_steady)
+
+  -- ---- an audit's
+
+  rows_turn : (expected next : ℕ) (table : Table)
+      → StepsTo (and_then (with_taken Low
+      (with_job (Some (GatheringRows expected next)) (with_table table freed_low))) job_goes_on)
+      link lives unit t
+  rows_turn expected next table =
+      let x : Manager = with_table table freed_low in
+      then_goes (with_taken Low (with_job (Some (GatheringRows expected next)) x)) link lives unit t
+      (took_told Low t) refl refl
+      (subst NoneSynced (sym quiet) tt) refl
+      (rejob_steady link lives unit x (Some (GatheringRows expected next)) (took_told Low t)
+      (took_steady Low link lives unit x t (low_steady x (quiet_table table freed_low).like))
+      (λ z g. subst (AtStep link lives unit (with_job (Some (GatheringRows expected next)) x)
+      (took_told Low t)) (same_Some (GatheringRows expected next) z g) rows_step))
+    where
+      none_waits : (lane : Priority) (v : Waiting)
+          → is_barred lane (GatheringRows expected next) ≡ true → out_in lane freed_low ≡ Some v
+          → is_changing v.command.request ≡ false
+      none_waits Low v b g = absurd (cc)
+      none_waits High v b g = absurd (false≢true b)
+
+      unprobed : (lane : Priority) → is_probed lane (GatheringRows expected next) ≡ true
+          → Coming (IsCalm lane) link t.names
+      unprobed lane p = absurd (false≢true (probed_resync lane (GatheringRows expected next) p))
+
+      rows_step : AtStep link lives unit
+          (with_job (Some (GatheringRows expected next)) (with_table table freed_low))
+          (took_told Low t) (GatheringRows expected next)
+      rows_step = record {
+        quiet = none_waits;
+        calm = unprobed;
+        put = λ a. absurd (false≢true a);
+        current = λ a. absurd (false≢true a);
+      }
+
+  audits_turn : (table : Table) → StepsTo
+      (and_then (with_taken Low (audit_done (with_table table freed_low))) job_goes_on) link lives
+      unit t
+  unfolding job_goes_on
+  audits_turn table =
+      let x : Manager = with_table table freed_low in
+      let y : Manager = audit_done x in
+      let u : Told = took_told Low t in
+      steps_after (and_then (with_taken Low y) job_goes_on) link lives unit t u
+      (audited_told y u) refl
+      (ap (λ rs. tell_all (flat_map (report_told y)
+      (rs ++ report.Audited (length (finished table).rows) ∷ [])) u) quiet)
+      (audited_steady link lives unit y u
+      (took_steady Low link lives unit y t
+      (low_steady y (record {
+        low = refl;
+        high = refl;
+        job = λ s g. absurd (cc);
+        was =
+            λ g. g;
+        copy = λ g. refl;
+      }))))
+
+  audit_steps : (a : Manager) → AuditTurns freed_low a
+      → StepsTo (and_then (with_taken Low a) job_goes_on) link lives unit t
+  audit_steps a (inl k) = quiet_turn a k
+  audit_steps a (inr (inl k)) =
+      subst (λ x. StepsTo (and_then (with_taken Low x) job_goes_on) link lives unit t) (sym k.is)
+      (rows_turn k.expected k.next k.table)
+  audit_steps a (inr (inr k)) =
+      subst (λ x. StepsTo (and_then (with_taken Low x) job_goes_on) link lives unit t) (sym k.is)
+      (audits_turn k.table)
+
+  turn_steps : (s : Stage) → m.job ≡ Some s → has_asked s ≡ true → (a : Manager) → Turns freed_low a
+      → Steps (and_then (with_taken Low a) job_goes_on) link lives unit t
+  turn_steps s j p a (inl k) did = quiet_turn a k
+  turn_steps s j p a (inr (inl k)) did =
+      subst (λ x. StepsTo (and_then (with_taken Low x) job_goes_on) link lives unit t) (sym k.is)
+      (gathers_turn s j p k.expected k.next k.copy)
+  turn_steps s j p a (inr (inr k)) did =
+      subst (λ x. Steps (and_then (with_taken Low x) job_goes_on) link lives unit t) (sym k.is)
+      (syncs_turn s j p k.copy) did
+
+  job_steps : (o : Option Stage) → m.job ≡ o
+      → Steps (and_then (with_taken Low (job_by o (response_of f) f freed_low)) job_goes_on) link
+      lives unit t
+  job_steps None j did = quiet_turn (freed f freed_low) (turns_freed f freed_low)
+  job_steps (Some (Probing high low)) j did =
+      quiet_turn (freed f freed_low) (turns_freed f freed_low)
+  job_steps (Some Asking) j did = turn_steps Asking j refl (upload_by (response_of f) f freed_low)
+      (turns_upload (response_of f) f freed_low) did
+  job_steps (Some (Gathering expected next copy)) j did =
+      turn_steps (Gathering expected next copy) j refl
+      (piece_by_reply (response_of f) expected next copy f freed_low)
+      (turns_reply (response_of f) expected next copy f freed_low) did
+  job_steps (Some AskingAlarms) j did =
+      audit_steps (alarms_by (response_of f) f freed_low) (audit_begins (response_of f) f freed_low)
+  job_steps (Some (GatheringRows expected next)) j did =
+      audit_steps (row_by_reply (response_of f) expected next f freed_low)
+      (audit_reply (response_of f) expected next f freed_low)
+
+-- ---- a packet
+
+module _ (bytes : List ℕ) (m : Manager) (link : Link) (lives : ℕ) (unit : Option Onu) (t : Told)
+    (h : Steady link lives unit m t) (quiet : m.reports ≡ []) (heard : IsHeard link lives m t bytes)
+    (callers : (w : Waiting) → m.high.outstanding ≡ Some w → is_job w.command.purpose ≡ false)
+    (asking : m.job ≡ Some Asking → t.asking ≡ t.low) where
+  -- ---- it answers nothing
+
+  aside_steady : (a : Manager) → Quietly m a → Steady link lives unit a t
+  aside_steady a k = milder_steady link lives unit m a t (like_milder m a k.like) h
+
+  aside_told : (a : Manager) → Quietly m a → NoneSynced a.reports
+  aside_told a k = k.told (subst NoneSynced (sym quiet) tt)
+
+  aside_steps : (a : Manager) → Quietly m a → StepsTo (sends_nothing a) link lives unit t
+  aside_steps a k = steps_quiet (sends_nothing a) link lives unit t t refl (aside_told a k)
+      (aside_steady a k)
+
+  dropped_steps : StepsTo (packet_dropped m) link lives unit t
+  dropped_steps = aside_steps (with_report report.Dropped m)
+      (quiet_report report.Dropped m (refl, tt))
+
+  noticed_steps : (one : EntityId) (bitmap : List ℕ) (a : Manager) → Quietly m a
+      → StepsTo (notice_taken one bitmap a) link lives unit t
+  noticed_steps one bitmap a k =
+      let more = t.notices ++ (one, bitmap) ∷ [] in
+      steps_quiet (notice_taken one bitmap a) link lives unit t (record t { notices = more }) refl
+      (aside_told a k)
+      (noticed_steady link lives unit a t more (aside_steady a k))
+
+  more : (r : Report) (a : Manager) → Quietly m a → is_synced r ≡ false
+      → Quietly m (with_report r a)
+  more r a k n = quiet_then m a (with_report r a) k (quiet_report r a (n, tt))
+
+  lost_steps : (job : Option Stage) (why : AuditReason) (a : Manager) → Quietly m a
+      → StepsTo (sends_nothing (audit_lost job why a)) link lives unit t
+  lost_steps job why a k = aside_steps (audit_lost job why a)
+      (quiet_then m a (audit_lost job why a) k (quiet_audit job why a))
+
+  alarm_steps : (o : TakenAlarm) (one : EntityId) (bitmap : List ℕ) (number : ℕ) (a : Manager)
+      → Quietly m a → StepsTo (alarm_as o one bitmap number a) link lives unit t
+  alarm_steps taken.Unaudited one bitmap number a k =
+      aside_steps _ (more (report.AlarmUnaudited number) a k refl)
+  alarm_steps taken.Repeat one bitmap number a k =
+      aside_steps _ (more (report.AlarmRepeat number) a k refl)
+  alarm_steps (taken.Gap want have) one bitmap number a k =
+      lost_steps a.job (audit.Gap want have) _ (more (report.AlarmGap want have) a k refl)
+  alarm_steps taken.Overflow one bitmap number a k =
+      lost_steps a.job audit.Overflow _ (more (report.AlarmOverflow number) a k refl)
+  alarm_steps taken.Taken one bitmap number a k =
+      noticed_steps one bitmap _ (more (report.AlarmTaken number) a k refl)
+
+  alarm_came_steps : (one : EntityId) (bitmap : List ℕ) (number : ℕ)
+      → StepsTo (alarm_came one bitmap number m) link lives unit t
+  unfolding alarm_came
+  alarm_came_steps one bitmap number =
+      alarm_steps (take_answer number m.table) one bitmap number
+      (with_table (after_take one bitmap number m.table) m)
+      (quiet_table (after_take one bitmap number m.table) m)
+
+  notice_steps : (one : EntityId) (notice : Notice) (f : Frame)
+      → StepsTo (notice_came one notice f m) link lives unit t
+  notice_steps one (notices.Alarm bitmap number) f = alarm_came_steps one bitmap number
+  notice_steps one (notices.Change mask values) f =
+      aside_steps _ (quiet_report (report.Change f) m (refl, tt))
+
+  not_taken_steps : (r : Result Message ContentsFault) (f : Frame)
+      → StepsTo (not_taken r f m) link lives unit t
+  not_taken_steps (Ok (ToldOf tci entity notice)) f = notice_steps entity notice f
+  not_taken_steps (Ok (Asked tci entity r)) f = dropped_steps
+  not_taken_steps (Ok (Answered tci entity r)) f = dropped_steps
+  not_taken_steps (Err fault) f = dropped_steps
+
+  -- ---- it is taken
+
+  by_purpose : (l : Priority) (w : Waiting) (f : Frame) → packet_frame bytes ≡ Some f
+      → out_in l m ≡ Some w → Heard l w link lives t bytes → (p : Purpose) → w.command.purpose ≡ p
+      → Steps (and_then (taken_as p l w.command f (with_lane l (end_command w (lane_in l m)) m))
+      job_goes_on) link lives unit t
+  by_purpose l w f read e k purpose.Probe p did =
+      probe_steps bytes f read m link lives unit t h quiet l w e k p
+  by_purpose l w f read e k purpose.Submission p did =
+      submitted_steps bytes f read m link lives unit t h quiet l w e k (ap is_probe p)
+  by_purpose l w f read e k purpose.Check p did =
+      checked_steps bytes f read m link lives unit t h quiet l w e k p
+  by_purpose Low w f read e k purpose.Job p did =
+      job_steps bytes f read m link lives unit t h quiet w e k p asking m.job refl did
+  by_purpose High w f read e k purpose.Job p did =
+      absurd (false≢true (sym (callers w e) ∙ ap is_job p))
+
+  taken_steps : (o : Outcome) → IsTaken bytes m o → Steps o link lives unit t
+  taken_steps o k =
+      let tci : frame_tci k ≡ packet_tci bytes = tci_read bytes k.frame k.read in
+      let waits = sym (out_is k.lane m) ∙ k.waits in
+      subst (λ x. Steps x link lives unit t) (sym k.is)
+      (by_purpose k.lane k.waiting k.frame k.read waits
+      (heard k.lane k.waiting waits (sym tci ∙ k.tci) (ap priority_of (sym tci) ∙ k.in_lane))
+      k.waiting.command.purpose refl)
+    where
+      frame_tci : IsTaken bytes m o → ℕ
+      frame_tci x = x.frame.tci
+
+  by_takes : (o : Outcome) → Takes bytes m o → Steps o link lives unit t
+  by_takes o (inl e) did = subst (λ x. StepsTo x link lives unit t) (sym e) dropped_steps
+  by_takes o (inr (inl k)) did =
+      subst (λ x. StepsTo x link lives unit t) (sym k.is)
+      (not_taken_steps (message_of k.frame) k.frame)
+  by_takes o (inr (inr k)) did = taken_steps o k did
+
+  pub packet_steps : Steps (after_packet bytes m) link lives unit t
+  packet_steps did = by_takes (after_packet bytes m) (takes bytes m) did

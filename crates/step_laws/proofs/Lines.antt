@@ -1,0 +1,658 @@
+-- Each line of a script keeps all.
+use Rattle.std.proofs.Common.{◌≡◌, ◌≢◌, ℕ, ◌+◌, ◌<◌, ◌^◌, Bool, true, false, List, [], ◌∷◌, ◌++◌}
+use Rattle.std.proofs.Common.{length, map, Option, Some, None, ◌⊎◌, inl, inr, refl, sym, ap, subst}
+use Rattle.std.proofs.Common.{arith}
+use Rattle.std.proofs.lemmas.Option.{same_Some}
+use Rattle.std.proofs.lemmas.Bool.{false≢true}
+use Rattle.std.specs.List.{flat_map}
+use Rattle.omci_types.specs.declared.EntityId.{EntityId}
+use Rattle.omci_types.specs.declared.Priority.{Priority}
+use Rattle.omci_types.specs.declared.Priority.TheVariants.{Low, High}
+use Rattle.tci_spec.specs.Tci.{IsNumber}
+use Rattle.frame_spec.specs.Baseline.{fault_of, packet_frame, spelling}
+use Rattle.message_spec.specs.declared.Request.{Request}
+use Rattle.mib_spec.specs.Database.{Database, first, image_values, has_unit_entities}
+use Rattle.mib_spec.specs.declared.Sensed.{Sensed}
+use Rattle.mib_spec.specs.declared.Sensed.TheVariants as sensed
+use Rattle.mib_spec.specs.Requests.{sense_outcome}
+use Rattle.alarm_spec.specs.Alarms.{Alarm}
+use Rattle.mib_laws.proofs.UnitEntities.{first_has, keeps_sense}
+use Rattle.upload_spec.specs.Pieces.{Copy}
+use Rattle.script_spec.specs.Script.{Header}
+use Rattle.link_spec.specs.declared.Direction.{Direction}
+use Rattle.link_spec.specs.declared.Direction.TheVariants.{Down, Up}
+use Rattle.link_spec.specs.Link.{Sent, Link, empty_link, allowed, sent_on, delivered_on, emptied}
+use Rattle.lane_spec.specs.Command.{ask, is_changing}
+use Rattle.manager_spec.specs.declared.Refusal.{Refusal}
+use Rattle.manager_spec.specs.declared.Report.{Report}
+use Rattle.manager_spec.specs.declared.Report.TheVariants as report
+use Rattle.manager_spec.specs.Manager.{Manager, Outcome, Sending, Asking, with_report}
+use Rattle.manager_spec.specs.Manager.{manager_started}
+use Rattle.manager_spec.specs.Submitting.{Submission, unless_refused, probe_refusal, after_probe}
+use Rattle.manager_spec.specs.Submitting.{submit_refusal, after_submit, check_refusal, after_check}
+use Rattle.manager_spec.specs.Submitting.{resync_refusal, after_resync, audit_refusal, after_audit}
+use Rattle.manager_spec.specs.Steps.{packet_dropped, for_frame, after_packet, after_tick}
+use Rattle.unit_spec.specs.declared.Did.TheVariants as did
+use Rattle.unit_spec.specs.declared.Note.{Note}
+use Rattle.unit_spec.specs.declared.Noticed.{Noticed}
+use Rattle.unit_spec.specs.declared.Noticed.TheVariants as noticed
+use Rattle.unit_spec.specs.Noticing.{Noticing, sensed_as, onu_sensed, may_alarm, onu_alarmed}
+use Rattle.unit_spec.specs.Onu.{Onu, Reception, onu_started, onu_received, onu_ticked}
+use Rattle.history_spec.specs.History.{WasCarried}
+use Rattle.world_spec.specs.Happenings.{Happening, PacketCame, UnitCarried, UnitNoted, CommandDrawn}
+use Rattle.world_spec.specs.Happenings.{ReplyTaken, NoticeTaken, CopyTold, TableTold, link_read}
+use Rattle.world_spec.specs.Ends.{Step, factory_software, not_enabled, preceded, sends, if_drawn}
+use Rattle.world_spec.specs.Ends.{if_asked, goes_down, copy_told, result_told, report_told}
+use Rattle.world_spec.specs.Ends.{manager_did, submission_step, submission, manager_got}
+use Rattle.world_spec.specs.Ends.{manager_ticks, unit_deed, unit_did, unit_got, arrives_at, arrives}
+use Rattle.world_spec.specs.Ends.{noise, unit_ticks, second, cut_unit, cut_manager, start_unit}
+use Rattle.world_spec.specs.Ends.{start_manager, notice_sent, unit_notices}
+use Rattle.world_spec.specs.Nodes.{Nodes, first_nodes, delivery_of, delivery, nodes_after_step}
+use Rattle.world_spec.specs.History.{Told, first_told, name_at, tell, tell_all}
+use Rattle.resync_laws.proofs.Reading.{noise_read, is_plain}
+use Rattle.resync_laws.proofs.Unit.{Leaves, Carries, Receives, receives, noise_drops}
+use Rattle.resync_laws.proofs.Telling.{tell_append, link_append, deeds_of, NoneSynced, none_more}
+use Rattle.resync_laws.proofs.Serving.{history_after, unit_after}
+use Rattle.resync_laws.proofs.Lines.{Fine, StepFine, alarmed_database}
+use Rattle.resync_laws.specs.Databases.{IsWholeDatabase}
+use Rattle.step_laws.proofs.Sensing.{sense_copied}
+use Rattle.step_laws.proofs.Coming.{Coming, coming_more, coming_past, coming_none}
+use Rattle.step_laws.proofs.Reading.{IsExact}
+use Rattle.step_laws.proofs.Parts.{lane_at, last_in, IsBelow, IsNewest, LaneOk, Steady, Kept, Sure}
+use Rattle.step_laws.proofs.Milder.{milder_steady}
+use Rattle.step_laws.proofs.Moving.{moved_steady, IsLike, like_database, IsLikeUnit, unit_steady}
+use Rattle.step_laws.proofs.Moving.{unit_kept, life_steady}
+use Rattle.step_laws.proofs.Serving.{carried_kept, carried_steady}
+use Rattle.step_laws.proofs.Sending.{same_more}
+use Rattle.step_laws.proofs.Turning.{like_report, like_milder}
+use Rattle.step_laws.proofs.Going.{StepsTo, steps_quiet}
+use Rattle.step_laws.proofs.Turns.{probe_steps, check_steps, resync_steps, audit_steps}
+use Rattle.step_laws.proofs.Turns.{submit_steps, tick_steps}
+use Rattle.step_laws.proofs.Hearing.{IsFenced, IsHeard, packet_steps}
+
+-- all of the nodes
+abbrev pub Sures : Nodes → Told → Type 0
+Sures n t = Sure n.link n.ends.lives n.ends.unit n.ends.manager t
+
+abbrev pub StepSure : Step → Nodes → Told → Type 0
+StepSure s n t = Sures (nodes_after_step s n) (tell_all s.happenings t)
+
+pub both_sure : (s r : Step) (n : Nodes) (t : Told)
+    → Sures (nodes_after_step r (nodes_after_step s n))
+    (tell_all r.happenings (tell_all s.happenings t))
+    → StepSure (record { ends = r.ends; happenings = s.happenings ++ r.happenings }) n t
+both_sure s r n t f =
+    let at : Link → Nodes = λ l. record { ends = r.ends; link = l } in
+    subst (λ l. Sures (at l) (tell_all (s.happenings ++ r.happenings) t))
+    (sym (link_append s.happenings r.happenings n.link))
+    (subst (λ u. Sures (at (link_read r.happenings (link_read s.happenings n.link))) u)
+    (sym (tell_append s.happenings r.happenings t)) f)
+
+sure_some : (link : Link) (lives : ℕ) (unit : Option Onu) (m : Manager) (t : Told)
+    → Steady link lives unit m t
+    → Kept lives unit t.history → Sure link lives unit (Some m) t
+sure_some link lives unit m t h k = record {
+  steady = λ x e. subst (λ y. Steady link lives unit y t) (same_Some m x e) h;
+  kept = k;
+}
+
+-- ---- what the manager does tells nothing of the unit
+
+abbrev is_unit : Happening → Bool
+is_unit (UnitCarried life reply before) = true
+is_unit (UnitNoted life note before) = true
+is_unit _ = false
+
+abbrev AllAside : List Happening → Type 0
+AllAside [] = Unit {0}
+AllAside (h ∷ rest) = (is_unit h ≡ false) × AllAside rest
+
+aside_append : (xs ys : List Happening) → AllAside xs → AllAside ys → AllAside (xs ++ ys)
+aside_append [] ys h k = k
+aside_append (x ∷ xs) ys h k = (h.0, aside_append xs ys h.1 k)
+
+kept_tell : (lives : ℕ) (unit : Option Onu) (h : Happening) (t : Told) → is_unit h ≡ false
+    → Kept lives unit t.history → Kept lives unit (tell h t).history
+kept_tell lives unit (UnitCarried life reply before) t e k = absurd (false≢true (sym e))
+kept_tell lives unit (UnitNoted life note before) t e k = absurd (false≢true (sym e))
+kept_tell lives unit (ReplyTaken lane) t e k =
+    record { has = k.has; past = k.past; snapshots = k.snapshots }
+kept_tell lives unit (TableTold table) t e k =
+    record { has = k.has; past = k.past; snapshots = k.snapshots }
+kept_tell lives unit (CopyTold copy) t e k =
+    record { has = k.has; past = k.past; snapshots = k.snapshots }
+kept_tell lives unit (CommandDrawn Low) t e k = k
+kept_tell lives unit (CommandDrawn High) t e k = k
+kept_tell lives unit _ t e k = k
+
+kept_all : (lives : ℕ) (unit : Option Onu) (hs : List Happening) (t : Told) → AllAside hs
+    → Kept lives unit t.history → Kept lives unit (tell_all hs t).history
+kept_all lives unit [] t a k = k
+kept_all lives unit (h ∷ hs) t a k =
+    kept_all lives unit hs (tell h t) a.1 (kept_tell lives unit h t a.0 k)
+
+aside_taken : (lanes : List Priority) → AllAside (map ReplyTaken lanes)
+aside_taken [] = tt
+aside_taken (x ∷ lanes) = (refl, aside_taken lanes)
+
+aside_noticed : (notices : List Alarm) → AllAside (map NoticeTaken notices)
+aside_noticed [] = tt
+aside_noticed (x ∷ notices) = (refl, aside_noticed notices)
+
+aside_copy : (copy : Option Copy) → AllAside (copy_told copy)
+aside_copy None = tt
+aside_copy (Some copy) = (refl, tt)
+
+aside_result : (r : Report) (m : Manager) → AllAside (result_told r m)
+aside_result (report.Synced entities counter) m = aside_copy m.copy
+aside_result (report.Audited rows) m = (refl, tt)
+aside_result _ m = tt
+
+aside_reports : (rs : List Report) (m : Manager) → AllAside (flat_map (report_told m) rs)
+aside_reports [] m = tt
+aside_reports (r ∷ rs) m = (
+  refl,
+  aside_append (result_told r m) (flat_map (report_told m) rs) (aside_result r m)
+      (aside_reports rs m),
+)
+
+aside_packets : (lane : Priority) (packets : List (List ℕ))
+    → AllAside (map (goes_down lane) packets)
+aside_packets lane [] = tt
+aside_packets lane (p ∷ packets) = (refl, aside_packets lane packets)
+
+aside_sending : (s : Sending) → AllAside (sends s)
+aside_sending s =
+    aside_append (if_drawn s.drawn s.lane ++ if_asked s.asks s.lane)
+    (map (goes_down s.lane) s.packets)
+    (aside_append (if_drawn s.drawn s.lane) (if_asked s.asks s.lane) (drawn s.drawn) (asked s.asks))
+    (aside_packets s.lane s.packets)
+  where
+    drawn : (b : Bool) → AllAside (if_drawn b s.lane)
+    drawn true = (refl, tt)
+    drawn false = tt
+
+    asked : (b : Bool) → AllAside (if_asked b s.lane)
+    asked true = (refl, tt)
+    asked false = tt
+
+aside_sends : (ss : List Sending) → AllAside (flat_map sends ss)
+aside_sends [] = tt
+aside_sends (s ∷ ss) = aside_append (sends s) (flat_map sends ss) (aside_sending s) (aside_sends ss)
+
+kept_deeds : (lives : ℕ) (unit : Option Onu) (o : Outcome) (t : Told) → Kept lives unit t.history
+    → Kept lives unit (tell_all (deeds_of o) t).history
+kept_deeds lives unit o t k =
+    kept_all lives unit (deeds_of o) t
+    (aside_append (map ReplyTaken o.taken ++ map NoticeTaken o.noticed ++ flat_map
+    (report_told o.manager) o.manager.reports) (flat_map sends o.sendings)
+    (aside_append (map ReplyTaken o.taken ++ map NoticeTaken o.noticed)
+    (flat_map (report_told o.manager) o.manager.reports)
+    (aside_append (map ReplyTaken o.taken) (map NoticeTaken o.noticed) (aside_taken o.taken)
+    (aside_noticed o.noticed))
+    (aside_reports o.manager.reports o.manager))
+    (aside_sends o.sendings)) k
+
+-- ---- a manager that has just started
+
+started_steady : (link : Link) (lives : ℕ) (unit : Option Onu) (low high : ℕ) (t : Told)
+    → IsNumber low → IsNumber high
+    → length link.packets ≡ length t.names
+    → ((life command : ℕ) → WasCarried life command t.history → command < t.drawn)
+    → ((P : Sent → ℕ → Type 0) → Coming P link t.names)
+    → Steady link lives unit (manager_started low high) t
+started_steady link lives unit low high t a b same known none = record {
+  same = same;
+  below = none (IsBelow t.drawn);
+  lanes = lane_ok;
+  apart = λ w v e f. absurd (cc);
+  known = known;
+  job = λ s e. absurd (cc);
+  phase = λ e. absurd (cc);
+}
+  where
+    lane_ok : (lane : Priority) → LaneOk lane
+        (lane_at lane (manager_started low high).low (manager_started low high).high) link t.names
+        t.drawn (last_in lane t)
+    lane_ok Low = record {
+      priority = refl;
+      number = omega (arith, a.most);
+      out =
+          λ w e. absurd (cc);
+      newest = none (IsNewest Low t.low None);
+    }
+    lane_ok High = record {
+      priority = refl;
+      number = omega (arith, b.most);
+      out =
+          λ w e. absurd (cc);
+      newest = none (IsNewest High t.high None);
+    }
+
+-- ---- what is asked of the manager
+
+did_sure : (o : Outcome) (n : Nodes) (t : Told) → Kept n.ends.lives n.ends.unit t.history
+    → StepsTo o n.link n.ends.lives n.ends.unit t → StepSure (manager_did o n.ends) n t
+did_sure o n t k d =
+    sure_some (link_read (deeds_of o) n.link) n.ends.lives n.ends.unit
+    (record o.manager { reports = [] }) (tell_all (deeds_of o) t) d
+    (kept_deeds n.ends.lives n.ends.unit o t k)
+
+submitted : (r : Option Refusal) (o : Outcome) (m : Manager) (n : Nodes) (t : Told) → Sures n t
+    → (r ≡ None → StepsTo o n.link n.ends.lives n.ends.unit t)
+    → StepSure (submission_step (unless_refused r o m) n.ends) n t
+submitted None o m n t f d = did_sure o n t f.kept (d refl)
+submitted (Some refusal) o m n t f d = record { steady = f.steady; kept = f.kept }
+
+not_enabled_sure : (n : Nodes) (t : Told) → Sures n t → StepSure (not_enabled n.ends) n t
+not_enabled_sure n t f = record { steady = f.steady; kept = f.kept }
+
+asked_sure : (call : Manager → Submission) (o : Option Manager) (n : Nodes) (t : Told) → Sures n t
+    → n.ends.manager ≡ o
+    → ((m : Manager) → n.ends.manager ≡ Some m → StepSure (submission_step (call m) n.ends) n t)
+    → StepSure (submission call o n.ends) n t
+asked_sure call None n t f e d = not_enabled_sure n t f
+asked_sure call (Some m) n t f e d = d m e
+
+module _ (n : Nodes) (t : Told) (f : Sures n t) (g : Fine n t) where
+  pub probe_sure : (lane : Priority) → StepSure
+      (submission (after_probe lane) n.ends.manager n.ends) n t
+  unfolding after_probe
+  probe_sure lane =
+      asked_sure (after_probe lane) n.ends.manager n t f refl
+      (λ m e. submitted (probe_refusal lane m) _ m n t f
+      (λ r. probe_steps m n.link n.ends.lives n.ends.unit t (f.steady m e)
+      (g.good.reports m e) lane r))
+
+  pub submit_sure : (lane : Priority) (entity : EntityId) (r : Request) → is_plain r ≡ true
+      → (is_changing r ≡ true → (tci : ℕ) → tci < 2 ^ 16 → IsExact tci (ask entity r))
+      → StepSure (submission (after_submit lane entity r) n.ends.manager n.ends) n t
+  unfolding after_submit
+  submit_sure lane entity r plainly exact =
+      asked_sure (after_submit lane entity r) n.ends.manager n t f refl
+      (λ m e. submitted (submit_refusal lane r m) _ m n t f
+      (λ q. submit_steps m n.link n.ends.lives n.ends.unit t (f.steady m e)
+      (g.good.reports m e) lane entity r plainly exact q))
+
+  pub check_sure : StepSure (submission after_check n.ends.manager n.ends) n t
+  unfolding after_check
+  check_sure =
+      asked_sure after_check n.ends.manager n t f refl
+      (λ m e. submitted (check_refusal m) _ m n t f
+      (λ q. check_steps m n.link n.ends.lives n.ends.unit t (f.steady m e) (g.good.reports m e) q))
+
+  pub resync_sure : StepSure (submission after_resync n.ends.manager n.ends) n t
+  unfolding after_resync
+  resync_sure =
+      asked_sure after_resync n.ends.manager n t f refl
+      (λ m e. submitted (resync_refusal m) _ m n t f
+      (λ q. resync_steps m n.link n.ends.lives n.ends.unit t (f.steady m e) (g.good.reports m e) q))
+
+  pub audit_sure : StepSure (submission after_audit n.ends.manager n.ends) n t
+  unfolding after_audit
+  audit_sure =
+      asked_sure after_audit n.ends.manager n t f refl
+      (λ m e. submitted (audit_refusal m) _ m n t f
+      (λ q. audit_steps m n.link n.ends.lives n.ends.unit t (f.steady m e) (g.good.reports m e) q))
+
+  -- ---- a second
+
+  manager_ticked : (o : Option Manager) → n.ends.manager ≡ o → StepSure (manager_ticks o n.ends) n t
+  manager_ticked None e = record { steady = f.steady; kept = f.kept }
+  manager_ticked (Some m) e =
+      did_sure (after_tick m) n t f.kept
+      (tick_steps m n.link n.ends.lives n.ends.unit t (f.steady m e) (g.good.reports m e))
+
+  -- ---- power
+
+  pub cut_unit_sure : (o : Option Onu) → StepSure (cut_unit o n.ends) n t
+  cut_unit_sure None = not_enabled_sure n t f
+  cut_unit_sure (Some u) =
+      let none : IsLikeUnit n.ends.unit None = record { from = λ v on. absurd (cc) } in
+      record {
+        steady = λ m e. unit_steady n.link n.ends.lives n.ends.unit None m t none (f.steady m e);
+        kept = record {
+          has = λ v on. absurd (cc);
+          past = f.kept.past;
+          snapshots =
+              f.kept.snapshots;
+        };
+      }
+
+  pub cut_manager_sure : (o : Option Manager) → StepSure (cut_manager o n.ends) n t
+  cut_manager_sure None = not_enabled_sure n t f
+  cut_manager_sure (Some m) = record { steady = λ x e. absurd (cc); kept = f.kept }
+
+  pub start_unit_sure : (o : Option Onu) → StepSure (start_unit o n.ends) n t
+  unfolding onu_started first
+  start_unit_sure (Some u) = not_enabled_sure n t f
+  start_unit_sure None =
+      let started : Onu = onu_started n.ends.software in
+      record {
+        steady = λ m e.
+            life_steady n.link n.ends.lives (n.ends.lives + 1) n.ends.unit (Some started) m t
+            (λ command was. let lt = f.kept.past (n.ends.lives + 1) command was in
+            omega (arith, lt)) (f.steady m e);
+        kept = record {
+          has = λ v on. subst (λ (x : Onu). has_unit_entities x.database ≡ true)
+              (same_Some started v on) (first_has (image_values 0 n.ends.software)
+              (image_values 1 n.ends.software));
+          past = λ life command was. let lt = f.kept.past life command was in omega (arith, lt);
+          snapshots = f.kept.snapshots;
+        };
+      }
+
+  pub start_manager_sure : (low high : ℕ) (o : Option Manager) → IsNumber low → IsNumber high
+      → length n.link.packets ≡ length t.names
+      → ((life command : ℕ) → WasCarried life command t.history → command < t.drawn)
+      → StepSure (start_manager low high o n.ends) n t
+  start_manager_sure low high (Some m) a b same known = not_enabled_sure n t f
+  start_manager_sure low high None a b same known =
+      sure_some (emptied n.link) n.ends.lives n.ends.unit (manager_started low high) t
+      (started_steady (emptied n.link) n.ends.lives n.ends.unit low high t a b same known
+      (λ P. coming_none P n.link t.names)) f.kept
+
+  -- ---- noise
+
+  unit_noise : (bytes : List ℕ) (o : Option Onu) → n.ends.unit ≡ o → packet_frame bytes ≡ None
+      → StepSure (unit_got [] bytes o n.ends) n t
+  unit_noise bytes None e k = not_enabled_sure n t f
+  unit_noise bytes (Some u) e k =
+      subst (λ (r : Reception). StepSure (preceded [] (unit_did r u n.ends)) n t)
+      (sym (noise_drops bytes u k))
+      (subst (λ x. Sure n.link n.ends.lives x n.ends.manager t) e f)
+
+  manager_noise : (bytes : List ℕ) (o : Option Manager) → n.ends.manager ≡ o
+      → packet_frame bytes ≡ None → StepSure (manager_got [] bytes o n.ends) n t
+  unfolding after_packet
+  manager_noise bytes None e k = not_enabled_sure n t f
+  manager_noise bytes (Some m) e k =
+      let x : Manager = with_report report.Dropped m in
+      subst (λ o. StepSure (preceded [] (manager_did (for_frame o m) n.ends)) n t) (sym k)
+      (did_sure (packet_dropped m) n t f.kept
+      (steps_quiet (packet_dropped m) n.link n.ends.lives n.ends.unit t t refl
+      (none_more m.reports report.Dropped (subst NoneSynced (sym (g.good.reports m e)) tt) refl)
+      (milder_steady n.link n.ends.lives n.ends.unit m x t
+      (like_milder m x (like_report report.Dropped m)) (f.steady m e))))
+
+-- the unit goes over into one that is alike
+like_unit : (n : Nodes) (t : Told) (u w : Onu) → n.ends.unit ≡ Some u → IsLike u.database w.database
+    → IsLikeUnit n.ends.unit (Some w)
+like_unit n t u w e like = record {
+  from = λ v on. (u, e, subst (λ (x : Onu). IsLike u.database x.database) (same_Some w v on) like);
+}
+
+like_sure : (n : Nodes) (t : Told) (after : Option Onu) → Sures n t → IsLikeUnit n.ends.unit after
+    → Sure n.link n.ends.lives after n.ends.manager t
+like_sure n t after f o = record {
+  steady = λ m e. unit_steady n.link n.ends.lives n.ends.unit after m t o (f.steady m e);
+  kept = unit_kept n.ends.lives n.ends.unit after t.history o f.kept;
+}
+
+-- ---- the unit notices something
+
+noticed_by : (o : Noticed) (packet : List ℕ) (n : Nodes) (t : Told) (w : Onu)
+    → Sure n.link n.ends.lives (Some w) n.ends.manager t
+    → StepSure (record {
+      ends = record n.ends { unit = Some w };
+      happenings =
+          notice_sent o packet;
+    }) n t
+noticed_by noticed.NotAllowed packet n t w f = record { steady = f.steady; kept = f.kept }
+noticed_by noticed.Same packet n t w f = record { steady = f.steady; kept = f.kept }
+noticed_by noticed.Sent packet n t w f =
+    let x : Sent = record { direction = Up; bytes = packet } in
+    record {
+      steady = λ m e.
+          let h = f.steady m e in
+          moved_steady n.link (sent_on x n.link) n.ends.lives (Some w) m t t.came t.packet
+          (t.names ++ 0 ∷ [])
+          (same_more n.link.packets x t.names 0 h.same)
+          (λ P q. coming_more P n.link t.names x 0 h.same (λ d. absurd (cc)) q) h;
+      kept = f.kept;
+    }
+
+noticing_sure : (call : Onu → Noticing) (o : Option Onu) (n : Nodes) (t : Told) → Sures n t
+    → n.ends.unit ≡ o
+    → ((u : Onu) → IsLike u.database (call u).unit.database)
+    → StepSure (unit_notices call o n.ends) n t
+noticing_sure call None n t f e like = not_enabled_sure n t f
+noticing_sure call (Some u) n t f e like =
+    noticed_by (call u).noticed (call u).packet n t (call u).unit
+    (like_sure n t (Some (call u).unit) f (like_unit n t u (call u).unit e (like u)))
+
+sensed_like : (o : Sensed) (one : EntityId) (number : ℕ) (value : List ℕ) (db : Database) (u : Onu)
+    → IsLike u.database db → IsLike u.database (sensed_as o one number value db u).unit.database
+sensed_like sensed.NotAllowed one number value db u k = like_database u.database u.database refl
+sensed_like sensed.Same one number value db u k = like_database u.database u.database refl
+sensed_like sensed.Changed one number value db u k = k
+
+-- the unit measures a value
+pub sense_sure : (one : EntityId) (number : ℕ) (value : List ℕ) (n : Nodes) (t : Told) → Sures n t
+    → StepSure (unit_notices (onu_sensed one number value) n.ends.unit n.ends) n t
+unfolding onu_sensed
+sense_sure one number value n t f =
+    noticing_sure (onu_sensed one number value) n.ends.unit n t f refl
+    (λ u. sensed_like (sense_outcome one number value u.database).0 one number value
+    (sense_outcome one number value u.database).1 u
+    (record {
+      has = λ h. keeps_sense one number value u.database h;
+      copied = λ copy h. sense_copied one number value u.database copy h;
+    }))
+
+-- or notices alarms
+pub alarm_sure : (one : EntityId) (bitmap : List ℕ) (n : Nodes) (t : Told) → Sures n t
+    → StepSure (unit_notices (onu_alarmed one bitmap) n.ends.unit n.ends) n t
+unfolding onu_alarmed
+alarm_sure one bitmap n t f =
+    noticing_sure (onu_alarmed one bitmap) n.ends.unit n t f refl
+    (λ u. like_database u.database _ (sym
+    (alarmed_database (may_alarm one u.database) one bitmap u)))
+
+-- ---- a second
+
+unit_ticked : (n : Nodes) (t : Told) (o : Option Onu) → Sures n t → n.ends.unit ≡ o
+    → StepSure (unit_ticks o n.ends) n t
+unfolding onu_ticked
+unit_ticked n t None f e = record { steady = f.steady; kept = f.kept }
+unit_ticked n t (Some u) f e =
+    like_sure n t (Some (onu_ticked u)) f
+    (like_unit n t u (onu_ticked u) e (like_database u.database u.database refl))
+
+pub second_sure : (n : Nodes) (t : Told) → Sures n t → Fine n t → StepSure (second n.ends) n t
+unfolding second
+second_sure n t f g =
+    let s = manager_ticks n.ends.manager n.ends in
+    both_sure s (unit_ticks s.ends.unit s.ends) n t
+    (unit_ticked (nodes_after_step s n) (tell_all s.happenings t) s.ends.unit
+    (manager_ticked n t f g n.ends.manager refl) refl)
+
+pub noise_sure : (d : Direction) (bytes : List ℕ) (n : Nodes) (t : Told) → Sures n t → Fine n t
+    → fault_of bytes ≢ None
+    → StepSure (noise d bytes n.ends) n t
+unfolding noise
+noise_sure Down bytes n t f g k = unit_noise n t f g bytes n.ends.unit refl (noise_read bytes k)
+noise_sure Up bytes n t f g k = manager_noise n t f g bytes n.ends.manager refl (noise_read bytes k)
+
+-- ---- deliveries
+
+-- what is known of the packets that may come next
+pub record Linked (n : Nodes) (t : Told) : Type 0 where
+  pub fresh : (number : ℕ) (s : Sent) (u : Onu) (note : Option Note) → n.ends.unit ≡ Some u
+      → allowed number n.link ≡ Some s → s.direction ≡ Down
+      → (onu_received s.bytes u).did ≡ did.Carried note
+      → WasCarried n.ends.lives (name_at number t.names) t.history → ⊥
+  pub heard : (number : ℕ) (s : Sent) (m : Manager) → n.ends.manager ≡ Some m
+      → allowed number n.link ≡ Some s → s.direction ≡ Up → IsHeard n.link n.ends.lives m t s.bytes
+
+module _ (number : ℕ) (s : Sent) (n : Nodes) (t : Told) (f : Sures n t) (g : Fine n t)
+    (k : Linked n t) (may : allowed number n.link ≡ Some s) where
+  abbrev lives : ℕ
+  lives = n.ends.lives
+
+  abbrev came : ℕ
+  came = name_at number t.names
+
+  past : (P : Sent → ℕ → Type 0) → Coming P n.link t.names
+      → Coming P (delivered_on number s n.link) t.names
+  past P h = coming_past P number s n.link t.names may h
+
+  arrived : (unit : Option Onu) (m : Manager) → Steady n.link lives unit m t
+      → Steady (delivered_on number s n.link) lives unit m
+      (record t { came = came; packet = s.bytes })
+  arrived unit m h = moved_steady n.link
+      (delivered_on number s n.link) lives unit m t came s.bytes t.names h.same past h
+
+  answered : (unit : Option Onu) (m : Manager) (reply : List ℕ) → Steady n.link lives unit m t
+      → Steady (sent_on (record { direction = Up; bytes = reply }) (delivered_on number s n.link))
+      lives unit m (record t { came = came; packet = s.bytes; names = t.names ++ came ∷ [] })
+  answered unit m reply h =
+      moved_steady n.link (sent_on (record { direction = Up; bytes = reply })
+      (delivered_on number s n.link)) lives unit m t came s.bytes (t.names ++ came ∷ [])
+      (same_more n.link.packets (record { direction = Up; bytes = reply }) t.names came h.same)
+      (λ P q. coming_more P (delivered_on number s n.link) t.names
+      (record { direction = Up; bytes = reply }) came h.same (λ d. absurd (cc)) (past P q)) h
+
+  -- ---- to the unit
+
+  abbrev Served : Onu → Reception → Type 0
+  Served u r =
+      Sure (link_read (PacketCame number s ∷ unit_deed r.did r.reply u lives) n.link) lives
+      (Some r.unit) n.ends.manager
+      (tell_all (PacketCame number s ∷ unit_deed r.did r.reply u lives) t)
+
+  leaves_sure : (u : Onu) → Sure n.link lives (Some u) n.ends.manager t → (r : Reception)
+      → Leaves u r → Served u r
+  leaves_sure u h r q = subst (λ x. Sure
+      (link_read (PacketCame number s ∷ unit_deed r.did r.reply u lives) n.link) lives
+      (Some x) n.ends.manager (tell_all (PacketCame number s ∷ unit_deed r.did r.reply u lives) t))
+      (sym q.unit) (go q.did)
+    where
+      go : (r.did ≡ did.Dropped) ⊎ (r.did ≡ did.Kept)
+          → Sure (link_read (PacketCame number s ∷ unit_deed r.did r.reply u lives) n.link) lives
+          (Some u) n.ends.manager (tell_all
+          (PacketCame number s ∷ unit_deed r.did r.reply u lives) t)
+      go (inl e) = subst (λ d. Sure (link_read
+          (PacketCame number s ∷ unit_deed d r.reply u lives) n.link) lives (Some u) n.ends.manager
+          (tell_all (PacketCame number s ∷ unit_deed d r.reply u lives) t)) (sym e)
+          (record { steady = λ m x. arrived (Some u) m (h.steady m x); kept = h.kept })
+      go (inr e) = subst (λ d. Sure (link_read
+          (PacketCame number s ∷ unit_deed d r.reply u lives) n.link) lives (Some u) n.ends.manager
+          (tell_all (PacketCame number s ∷ unit_deed d r.reply u lives) t)) (sym e)
+          (record { steady = λ m x. answered (Some u) m r.reply (h.steady m x); kept = h.kept })
+
+  module _ (u : Onu) (h : Sure n.link lives (Some u) n.ends.manager t) (way : s.direction ≡ Down)
+      (c : Carries s.bytes u (onu_received s.bytes u)) (fresh : WasCarried lives came t.history → ⊥)
+      (whole : IsWholeDatabase u.database) where
+    abbrev CarriedWith : Option Note → Type 0
+    CarriedWith o =
+        Sure (link_read (PacketCame number s ∷ unit_deed (did.Carried o)
+        (spelling c.answer.reply) u lives) n.link) lives
+        (Some (unit_after c.frame.tci c.answer)) n.ends.manager
+        (tell_all (PacketCame number s ∷ unit_deed (did.Carried o)
+        (spelling c.answer.reply) u lives) t)
+
+    abbrev Plainly : Option Note → Type 0
+    Plainly o =
+        Sure (sent_on (record { direction = Up; bytes = spelling c.answer.reply })
+        (delivered_on number s n.link)) lives
+        (Some (unit_after c.frame.tci c.answer)) n.ends.manager
+        (record t {
+          came = came;
+          packet = s.bytes;
+          names = t.names ++ came ∷ [];
+          history =
+              history_after o lives came (spelling c.answer.reply) u t.history;
+        })
+
+    plainly_carried : Plainly c.answer.note
+    plainly_carried = record {
+      steady = λ m e. carried_steady number s n.link lives u t may way fresh c m
+          (h.steady m e) whole (h.kept.has u refl);
+      kept = carried_kept number s n.link lives u t may way fresh c h.kept;
+    }
+
+    carried_with : (o : Option Note) → c.answer.note ≡ o → CarriedWith o
+    carried_with None e = subst Plainly e plainly_carried
+    carried_with (Some note) e = subst Plainly e plainly_carried
+
+    carries_sure : Served u (onu_received s.bytes u)
+    carries_sure = subst (Served u) (sym c.is) (carried_with c.answer.note refl)
+
+  unit_arrives : (o : Option Onu) → n.ends.unit ≡ o → s.direction ≡ Down
+      → StepSure (unit_got (PacketCame number s ∷ []) s.bytes o n.ends) n t
+  unit_arrives None e way = not_enabled_sure n t f
+  unit_arrives (Some u) e way = go (receives s.bytes u)
+    where
+      h : Sure n.link n.ends.lives (Some u) n.ends.manager t
+      h = subst (λ x. Sure n.link n.ends.lives x n.ends.manager t) e f
+
+      go : Receives s.bytes u (onu_received s.bytes u) → Served u (onu_received s.bytes u)
+      go (inl q) = leaves_sure u h (onu_received s.bytes u) q
+      go (inr c) = carries_sure u h way c
+          (k.fresh number s u c.answer.note e may way (ap (λ (r : Reception). r.did) c.is))
+          (g.good.whole u e)
+
+  -- ---- to the manager
+
+  asking_own : (m : Manager) → n.ends.manager ≡ Some m → m.job ≡ Some Asking → t.asking ≡ t.low
+  asking_own m e j = (g.good.job m e Asking j).own
+
+  manager_arrives : (o : Option Manager) → n.ends.manager ≡ o → s.direction ≡ Up
+      → StepFine (manager_got (PacketCame number s ∷ []) s.bytes o n.ends) n t
+      → StepSure (manager_got (PacketCame number s ∷ []) s.bytes o n.ends) n t
+  manager_arrives None e way after = not_enabled_sure n t f
+  manager_arrives (Some m) e way after =
+      let u : Told = record t { came = came; packet = s.bytes } in
+      let link : Link = delivered_on number s n.link in
+      sure_some (link_read (deeds_of (after_packet s.bytes m)) link) lives n.ends.unit
+      (record (after_packet s.bytes m).manager { reports = [] })
+      (tell_all (deeds_of (after_packet s.bytes m)) u)
+      (packet_steps s.bytes m link lives n.ends.unit u (arrived n.ends.unit m (f.steady m e))
+      (g.good.reports m e)
+      (λ l w waits same lane. let x = k.heard number s m e may way l w waits same lane in
+      record { own = x.own; fence = past (IsFenced l (last_in l t)) x.fence })
+      (λ w waits. ((g.good.lanes m e).high_out w waits).callers)
+      (asking_own m e) after.good)
+      (kept_deeds lives n.ends.unit (after_packet s.bytes m) u f.kept)
+
+  arrives_by : (d : Direction) → s.direction ≡ d
+      → StepFine (arrives_at d (PacketCame number s ∷ []) s.bytes n.ends) n t
+      → StepSure (arrives_at d (PacketCame number s ∷ []) s.bytes n.ends) n t
+  arrives_by Down way after = unit_arrives n.ends.unit refl way
+  arrives_by Up way after = manager_arrives n.ends.manager refl way after
+
+  arrives_sure : StepFine (arrives number s n.ends) n t → StepSure (arrives number s n.ends) n t
+  unfolding arrives
+  arrives_sure after = arrives_by s.direction refl after
+
+delivery_by : (o : Option Sent) (number : ℕ) (n : Nodes) (t : Told) → Sures n t → Fine n t
+    → Linked n t → allowed number n.link ≡ o
+    → StepFine (delivery_of o number n.ends) n t → StepSure (delivery_of o number n.ends) n t
+delivery_by None number n t f g k may after = not_enabled_sure n t f
+delivery_by (Some s) number n t f g k may after = arrives_sure number s n t f g k may after
+
+pub delivery_sure : (number : ℕ) (n : Nodes) (t : Told) → Sures n t → Fine n t → Linked n t
+    → StepFine (delivery number n) n t
+    → StepSure (delivery number n) n t
+unfolding delivery
+delivery_sure number n t f g k after =
+    delivery_by (allowed number n.link) number n t f g k refl after
+
+-- ---- at first
+
+pub first_sure : (h : Header) → IsNumber h.low → IsNumber h.high → Sures (first_nodes h) first_told
+unfolding onu_started first allowed
+first_sure h a b =
+    sure_some empty_link 1 (Some (onu_started (factory_software h.factory)))
+    (manager_started h.low h.high) first_told
+    (started_steady empty_link 1 (Some (onu_started (factory_software h.factory))) h.low h.high
+    first_told a b refl (λ life command was. absurd was) (λ P i s may way. absurd (cc)))
+    (record {
+      has = λ v on. subst (λ (x : Onu). has_unit_entities x.database ≡ true)
+          (same_Some (onu_started (factory_software h.factory)) v on)
+          (first_has (image_values 0 (factory_software h.factory))
+          (image_values 1 (factory_software h.factory)));
+      past = λ life command was. absurd was;
+      snapshots = λ life command was. absurd was;
+    })

@@ -1,0 +1,4 @@
+pub mod Fitting
+pub mod Gathering
+pub mod Sections
+pub mod Windows
