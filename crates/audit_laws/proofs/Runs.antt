@@ -16,6 +16,7 @@ use Rattle.world_spec.specs.Ends.{Step}
 use Rattle.world_spec.specs.Nodes.{Nodes, first_nodes, delivery, nodes_after_step, flow_from, oldest_fresh, flow, acted, next_event, step, nodes_after}
 use Rattle.world_spec.specs.History.{Told, first_told, tell_all, told_after, history_of}
 use Rattle.world_laws.specs.Facts.{AreReached}
+use Rattle.world_laws.proofs.Reading.{no_baseline}
 use Rattle.resync_laws.proofs.Lines.{Fine}
 use Rattle.resync_laws.proofs.Runs.{Promises, with_event, linked_of, reach_step, reach_fresh, first_reached, reached_fine}
 use Rattle.audit_laws.proofs.Known.{IsAlarmed}
@@ -89,8 +90,10 @@ module _ (p : Promises) where
   acted_line (Deliver number) k n t g r h =
       delivery_line number n t (fine_at k n t r) g (linked_of p k n t r)
   acted_line (Flow times) k n t g r h = flow_line times n t k g r
-  acted_line (NoiseUnit bytes) k n t g r h = noise_line Down bytes n t (fine_at k n t r) g h.0.0
-  acted_line (NoiseOlt bytes) k n t g r h = noise_line Up bytes n t (fine_at k n t r) g h.0.0
+  acted_line (NoiseUnit bytes) k n t g r h =
+      noise_line Down bytes n t (fine_at k n t r) g (no_baseline bytes h.0.0)
+  acted_line (NoiseOlt bytes) k n t g r h =
+      noise_line Up bytes n t (fine_at k n t r) g (no_baseline bytes h.0.0)
   acted_line Tick k n t g r h = second_line n t (fine_at k n t r) g
   acted_line (Sense entity number value) k n t g r h = sense_line entity number value n.ends t g
   acted_line (Alarm entity bitmap) k n t g r h =

@@ -1,9 +1,12 @@
-//! One frame of each kind of message, in both sets: it is read as a message, and the message is written
-//! again.
+//! One frame of each kind of message, in both sets: its bytes are decoded, it is read as a message,
+//! and the message is written again.
 
-use extended_frames::{LongFrame, fits_long_frame, has_valid_long_window, read_long, write_long};
+use extended_frames::{
+    AnyFrame, LongFrame, decode_any, encode_long, fits_long_frame, has_valid_long_window,
+    read_long, write_long,
+};
 use omci_contents::{has_valid_window, read_message, write_message};
-use omci_core::EntityId;
+use omci_core::{EntityId, Packet};
 use omci_frames::{Frame, decode, encode};
 use std::alloc::Global;
 use std::test::Fail;
@@ -82,12 +85,29 @@ fn each_kind_of_baseline_frame_goes_both_ways(rt: HostRuntime) -> Result<(), Fai
     Ok(())
 }
 
-/// Whether the frame of this kind with these contents is written again as it was read.
+/// Whether the bytes of a frame are decoded as a frame of this kind with these contents.
+fn is_decoded(alloc: Global, frame: &LongFrame, kind: u8, contents: &[u8]) -> bool {
+    let mut packet = Packet::new();
+    encode_long(frame, &mut packet);
+    let Ok(AnyFrame::Long(read)) = decode_any(alloc, packet.bytes()) else {
+        return false;
+    };
+    read.tci() == 0x8001
+        && read.kind() == kind
+        && read.entity() == ONU_G
+        && read.contents() == contents
+}
+
+/// Whether the frame of this kind with these contents goes through its bytes, and is written again
+/// as it was read.
 fn is_written_again(alloc: Global, kind: u8, contents: &[u8]) -> Result<bool, Fail> {
     if contents.len() > 32 {
         return Ok(false);
     }
     let frame = LongFrame::new(alloc, 0x8001, kind, ONU_G, contents)?;
+    if !is_decoded(alloc, &frame, kind, contents) {
+        return Ok(false);
+    }
     let Ok(message) = read_long(alloc, &frame) else {
         return Ok(false);
     };

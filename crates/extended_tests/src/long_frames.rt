@@ -10,16 +10,18 @@ const ONU_DATA: EntityId = EntityId {
     instance: 0,
 };
 
-/// A get of the sync counter as an extended frame, less its check value.
-const GET: [u8; 12] = [0x00, 0x01, 0x49, 0x0b, 0, 2, 0, 0, 0, 2, 0x80, 0];
+/// A get of the sync counter as an extended frame. The check value is that of a program that shifts
+/// one bit at a time.
+const GET: [u8; 16] = [
+    0x00, 0x01, 0x49, 0x0b, 0, 2, 0, 0, 0, 2, 0x80, 0, 0xa7, 0xc4, 0xe7, 0x0f,
+];
 
 #[test]
 fn a_get_goes_both_ways(rt: HostRuntime) -> Result<(), Fail> {
     let frame = LongFrame::new(rt.alloc(), 1, 0x49, ONU_DATA, &[0x80, 0])?;
     let mut packet = Packet::new();
     encode_long(&frame, &mut packet);
-    assert_eq!(rt; packet.len(), 16);
-    assert!(rt; packet.bytes().starts_with(&GET));
+    assert_eq!(rt; packet.bytes(), GET.as_slice());
     let Ok(AnyFrame::Long(read)) = decode_any(rt.alloc(), packet.bytes()) else {
         assert!(rt; false, "no extended frame was read");
         return Ok(());

@@ -14,4 +14,6 @@ mod database;
 #[cfg(test)]
 mod frames;
 #[cfg(test)]
+mod orders;
+#[cfg(test)]
 mod script;

@@ -37,6 +37,9 @@ start olt 00001 32767\n";
 const FRAME: &str =
     "0001490a0002000080000000000000000000000000000000000000000000000000000000000000000000002886d7d0d6";
 
+/// The same request in an extended frame of 16 bytes, with its check value.
+const LONG_FRAME: &str = "0001490b0002000000028000a7c4e70f";
+
 const PORT: EntityId = EntityId {
     class: 272,
     instance: 5,
@@ -325,6 +328,24 @@ fn noise_may_not_decode(rt: HostRuntime) -> Result<(), Fail> {
     }
     let part = refusal(alloc, HEADER, "noise unit ", &FRAME[..94])?;
     assert_eq!(rt; part, (0, 0));
+    Ok(())
+}
+
+#[test]
+fn noise_may_not_decode_as_an_extended_frame(rt: HostRuntime) -> Result<(), Fail> {
+    let rows = [
+        ("noise unit ", LONG_FRAME, (2, 5)),
+        ("noise olt ", LONG_FRAME, (2, 5)),
+        ("noise unit 00", LONG_FRAME, (0, 0)),
+        ("noise olt ", &LONG_FRAME[..30], (0, 0)),
+        ("noise olt ", "0001490b0002000000028000a7c4e70e", (0, 0)),
+        ("noise olt ", "0001490b0002000007af8000a7c4e70f", (0, 0)),
+        ("noise olt ", "0001490b0002000000028000a7c4e70f00", (2, 5)),
+    ];
+    for (front, bytes, wanted) in rows {
+        let found = refusal(rt.alloc(), HEADER, front, bytes)?;
+        assert_eq!(rt; found, wanted, "{front:?} {bytes:?}");
+    }
     Ok(())
 }
 

@@ -1,12 +1,13 @@
 -- How an answer of the code stands to what reading gives.
-use Rattle.std.specs.Prelude.{◌≡◌, ◌≢◌, ℕ, ◌⊎◌, List, [], ◌∷◌, ◌++◌, codes, Option, Some, None}
-use Rattle.std.specs.Prelude.{Result, Ok, Err}
+use Rattle.std.specs.Prelude.{◌≡◌, ◌≢◌, ℕ, Bool, true, false, ◌⊎◌, List, [], ◌∷◌, ◌++◌, codes}
+use Rattle.std.specs.Prelude.{Option, Some, None, Result, Ok, Err}
+use Rattle.extended_frames.specs.declared.front.Shown.{Shown}
+use Rattle.extended_frames.specs.declared.front.Shown.TheVariants as shown
 use Rattle.script_spec.specs.declared.Line.{Line}
-use Rattle.script_spec.specs.Script.{Script}
-use Rattle.script_spec.specs.Text.{words_of, after_name}
-use Rattle.script_spec.specs.Grammar.{Writes}
-use Rattle.script_spec.specs.Fault.{fault}
+use Rattle.script_spec.specs.declared.TheConstants.{HEADER_FAULT}
+use Rattle.script_spec.specs.Text.{lines_of, words_of, after_name, opening}
 use Rattle.script_spec.specs.Reading.{or_among}
+use Rattle.replay_script.specs.declared.lines.FirstLine.{FirstLine}
 use Rattle.replay_script.specs.declared.refusal.LineRefusal.{LineRefusal}
 use Rattle.replay_script.specs.declared.refusal.LineRefusal.TheVariants as refused
 use Rattle.replay_script.specs.declared.refusal.ScriptRefusal.{ScriptRefusal}
@@ -22,6 +23,12 @@ abbrev pub end_named : Line → Line → List (List ℕ) → Option (Line × Lis
 end_named unit olt words =
     or_among unit (after_name (codes "unit" ∷ []) words)
     (or_among olt (after_name (codes "olt" ∷ []) words) None)
+
+-- whether a whole frame of either message set is shown
+abbrev pub is_whole : Shown → Bool
+is_whole (shown.Whole count) = true
+is_whole shown.Open = false
+is_whole (shown.Faulty fault) = false
 
 -- what stands before a line feed, and the line's text: one carriage return at the end is no part of
 -- it
@@ -48,19 +55,31 @@ abbrev pub GivesScript : {X Y : Type 0} → (X → Y) → Result X ScriptRefusal
 GivesScript view (Ok value) read = read ≡ Ok (view value)
 GivesScript view (Err refusal) read = FailsScript refusal read
 
--- a script that the bytes write is the answer, unless memory ran out
-abbrev pub ReadsOnly : Result Script ScriptRefusal → List ℕ → Type 0
-ReadsOnly answer bytes =
-    (written : Script) → Writes written bytes
-    → (answer ≡ Ok written) ⊎ (answer ≡ Err script.NoMemory)
+-- what the bytes write, a script or orders, is the answer, unless memory ran out
+abbrev pub ReadsOnly : {A : Type 0} → (A → List ℕ → Type 0) → Result A ScriptRefusal → List ℕ
+    → Type 0
+ReadsOnly {A} writes answer bytes =
+    (written : A) → writes written bytes → (answer ≡ Ok written) ⊎ (answer ≡ Err script.NoMemory)
 
 -- a refusal for a fault names the first fault of the bytes
-abbrev pub IsFaultOf : ScriptRefusal → List ℕ → Type 0
-IsFaultOf (script.Fault line reason) bytes = fault bytes ≡ Some (line, reason)
-IsFaultOf script.NoMemory bytes = Unit {0}
+abbrev pub IsFaultOf : (List ℕ → Option (ℕ × ℕ)) → ScriptRefusal → List ℕ → Type 0
+IsFaultOf first (script.Fault line reason) bytes = first bytes ≡ Some (line, reason)
+IsFaultOf first script.NoMemory bytes = Unit {0}
 
 -- the first fault of the bytes is the answer, unless memory ran out
-abbrev pub RefusesOnly : Result Script ScriptRefusal → List ℕ → Type 0
-RefusesOnly answer bytes =
-    (line reason : ℕ) → fault bytes ≡ Some (line, reason)
+abbrev pub RefusesOnly : {A : Type 0} → (List ℕ → Option (ℕ × ℕ)) → Result A ScriptRefusal → List ℕ
+    → Type 0
+RefusesOnly first answer bytes =
+    (line reason : ℕ) → first bytes ≡ Some (line, reason)
     → (answer ≡ Err (script.Fault line reason)) ⊎ (answer ≡ Err script.NoMemory)
+
+-- the first line that isn't passed over, with its number and the bytes after it
+abbrev pub IsFirstLine : FirstLine → List ℕ → Type 0
+IsFirstLine first bytes =
+    opening 1 (lines_of bytes) ≡ (first.line, first.text.now ∷ lines_of first.rest.now)
+
+-- no line is left where the header's would stand
+abbrev pub LacksHeader : ScriptRefusal → List ℕ → Type 0
+LacksHeader refusal bytes =
+    (line : ℕ) × (opening 1 (lines_of bytes) ≡ (line, []))
+    × (refusal ≡ script.Fault line HEADER_FAULT)

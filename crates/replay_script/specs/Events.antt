@@ -1,4 +1,4 @@
--- What an event and a header say, apart from where their bytes lie in memory.
+-- What an event and the two kinds of header say, apart from where their bytes lie in memory.
 use Rattle.script_spec.specs.Script as spec
 use Rattle.replay_script.specs.declared.script.Event.{Event}
 use Rattle.replay_script.specs.declared.script.Event.TheVariants.{Probe, Reset, Get, Create, Set}
@@ -7,6 +7,7 @@ use Rattle.replay_script.specs.declared.script.Event.TheVariants.{Deliver, Flow,
 use Rattle.replay_script.specs.declared.script.Event.TheVariants.{Tick, Sense, Alarm, CutUnit}
 use Rattle.replay_script.specs.declared.script.Event.TheVariants.{CutOlt, StartUnit, StartOlt}
 use Rattle.replay_script.specs.declared.script.Header.{Header}
+use Rattle.replay_script.specs.declared.orders.FirstNumbers.{FirstNumbers}
 
 abbrev pub action_of : Event → spec.Action
 action_of (Probe lane) = spec.Probe lane
@@ -33,3 +34,6 @@ action_of (StartOlt low high) = spec.StartOlt low high
 abbrev pub header_of : Header → spec.Header
 header_of header =
     record { room = header.room; low = header.low; high = header.high; factory = header.factory }
+
+abbrev pub lanes_of : FirstNumbers → spec.OrdersHeader
+lanes_of numbers = record { low = numbers.low; high = numbers.high }

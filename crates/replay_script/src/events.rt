@@ -10,16 +10,21 @@ use crate::script::Event;
 use crate::words::LineWords;
 use omci_core::EntityId;
 use script_spec::{
-    LAST_PACKET, Line, MAX_ATTRIBUTE, MAX_BITMAP, MAX_CREATE, MAX_FLOW, MAX_SENSED, MAX_SET,
+    Document, LAST_PACKET, Line, MAX_ATTRIBUTE, MAX_BITMAP, MAX_CREATE, MAX_FLOW, MAX_SENSED,
+    MAX_SET,
 };
 use std::alloc::Global;
 
-/// The event that a line of these words asks for.
+/// The event that a line of these words asks for, in a document that may lack its kind.
 #[tactic(auto, unfolding(script_spec::specs::Reading::line_action))]
-pub(crate) fn event_of(alloc: Global, mut words: LineWords<'_>) -> Result<Event, LineRefusal>
-    ensures value { Gives action_of result (line_action words.entry) }
+pub(crate) fn event_of(
+    alloc: Global,
+    document: Document,
+    mut words: LineWords<'_>,
+) -> Result<Event, LineRefusal>
+    ensures value { Gives action_of result (line_action document words.entry) }
 {
-    let line = words.line()?;
+    let line = words.line(document)?;
     match line {
         Line::Probe => probe_event(words),
         Line::Reset => reset_event(words),

@@ -1,16 +1,18 @@
-//! Scripts: a header and events, as text. `read` takes a script's bytes apart, or answers the first
-//! fault by its line and its reason.
+//! Scripts and orders: a header and events, as text. `read` and `read_orders` take the bytes apart,
+//! or answer the first fault by its line and its reason; `print` writes a script's canonical text.
 #![tactic(auto)]
 
 mod events;
 mod lines;
+mod orders;
 mod printing;
 mod reading;
 mod refusal;
 mod script;
 mod words;
 
+pub use orders::Orders;
 pub use printing::print;
-pub use reading::read;
+pub use reading::{read, read_orders};
 pub use refusal::ScriptRefusal;
 pub use script::{Event, Header, Script};

@@ -1,9 +1,48 @@
-//! The lines of a script, and which of them are passed over.
+//! The lines of a script or of orders, and which of them are passed over.
 
-ghost use Rattle.std.specs.Prelude.{◌≡◌, ◌==◌, ◌<◌, ◌∷◌, length};
+ghost use Rattle.std.specs.Prelude.{◌≡◌, ◌==◌, ◌+◌, ◌≤◌, ◌<◌, ◌∷◌, length, MatchResult, IfOk};
 ghost use Rattle.std.specs.List.{position};
 ghost use Rattle.script_spec.specs.Text.{lines_of, is_passed_over};
-ghost use Rattle.replay_script.specs.Answers.{IsTextOf};
+ghost use Rattle.replay_script.specs.Answers.{IsTextOf, IsFirstLine, LacksHeader};
+
+use crate::refusal::ScriptRefusal;
+use script_spec::HEADER_FAULT;
+
+/// The first line that isn't passed over.
+#[derive(Clone, Copy)]
+pub(crate) struct FirstLine<'a> {
+    /// Its number, from 1.
+    pub(crate) line: u64,
+    pub(crate) text: &'a [u8],
+    /// The bytes after it.
+    pub(crate) rest: &'a [u8],
+}
+
+/// The line that a header has to stand in, or the fault that there is none.
+pub(crate) fn header_line(bytes: &[u8]) -> Result<FirstLine<'_>, ScriptRefusal>
+    ensures value { MatchResult result (λ first. IsFirstLine first bytes.now)
+        (λ refusal. LacksHeader refusal bytes.now) }
+    ensures bound { IfOk result (λ first. first.line + length first.rest.now ≤ length bytes.now) }
+{
+    let mut rest = bytes;
+    let mut line = 1;
+    while !rest.is_empty() {
+        let (text, after) = next_line(rest);
+        if !is_passed_over(text) {
+            return Ok(FirstLine {
+                line,
+                text,
+                rest: after,
+            });
+        }
+        rest = after;
+        line += 1;
+    }
+    Err(ScriptRefusal::Fault {
+        line,
+        reason: HEADER_FAULT,
+    })
+}
 
 /// The first line's text, and the bytes after the line's end.
 pub(crate) fn next_line(bytes: &[u8]) -> (&[u8], &[u8])

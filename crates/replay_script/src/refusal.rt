@@ -7,16 +7,16 @@ use script_spec::{HEX_FAULT, NOISE_FAULT, NUMBER_FAULT, WORD_FAULT};
 use std::alloc::AllocFailed;
 use thiserror::Error;
 
-/// Why bytes were not read as a script.
+/// Why bytes were not read as a script, or as orders.
 #[derive(Clone, Copy, Debug, PartialEq, Eq, Error)]
 pub enum ScriptRefusal {
     /// The first fault: the line's number, from 1, and the reason. 1 is an unknown word, a missing
     /// word or one too many; 2 a number that is malformed or out of range; 3 hex that is malformed
     /// or of a length that isn't allowed; 4 a header that is missing or has any fault; 5 noise that
-    /// decodes as a frame.
+    /// decodes as a frame of either message set.
     #[error("line {line}: reason {reason}")]
     Fault { line: u64, reason: u8 },
-    /// There was no memory for what the script says.
+    /// There was no memory for what the bytes say.
     #[error("out of memory")]
     NoMemory,
 }
@@ -43,6 +43,6 @@ impl LineRefusal {
     pub(crate) const NUMBER: LineRefusal = LineRefusal::Reason(NUMBER_FAULT);
     /// Hex that is malformed or of a length that isn't allowed.
     pub(crate) const HEX: LineRefusal = LineRefusal::Reason(HEX_FAULT);
-    /// Noise that decodes as a frame.
+    /// Noise that decodes as a frame of either message set.
     pub(crate) const NOISE: LineRefusal = LineRefusal::Reason(NOISE_FAULT);
 }

@@ -21,7 +21,7 @@ pub struct Header {
     pub factory: Bytes,
 }
 
-/// What a line of a script asks for. Bytes are kept as they were written; they are filled when the
+/// What a line of a script, or of orders, asks for. Bytes are kept as they were written; they are filled when the
 /// event is run.
 #[derive(Debug, PartialEq, Eq, Drop)]
 pub enum Event {
@@ -71,11 +71,13 @@ pub enum Event {
     Flow {
         times: u32,
     },
-    /// Noise comes to the unit: at most 4,096 bytes that don't decode as a frame.
+    /// Noise comes to the unit: at most 4,096 bytes that don't decode as a frame of either message
+    /// set.
     NoiseUnit {
         bytes: Bytes,
     },
-    /// Noise comes to the manager: at most 4,096 bytes that don't decode as a frame.
+    /// Noise comes to the manager: at most 4,096 bytes that don't decode as a frame of either
+    /// message set.
     NoiseOlt {
         bytes: Bytes,
     },

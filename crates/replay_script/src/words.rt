@@ -1,26 +1,28 @@
 //! The words of a line, read one after the other.
 
 ghost use Rattle.std.specs.Prelude.{◌≡◌, ◌==◌, ◌≤◌, [], ◌∷◌, if◌then◌else◌, IfOk, length, true};
-ghost use Rattle.std.specs.Prelude.{Some, None};
+ghost use Rattle.std.specs.Prelude.{Some, None, is_some};
 ghost use Rattle.std.specs.List.{AllPass, list_all, count_by};
 ghost use Rattle.std.specs.Char.{is_ascii_digit};
+ghost use Rattle.extended_spec.specs.Frames.{any_fault_of};
+ghost use Rattle.script_spec.specs.Script.{row, has};
 ghost use Rattle.script_spec.specs.Fields.{Lane as LaneSaid, Number as NumberSaid};
 ghost use Rattle.script_spec.specs.Fields.{Bytes as BytesSaid, LaneName, Decimal, MaskDigits};
 ghost use Rattle.script_spec.specs.Fields.{HexBytes, NoiseBytes};
 ghost use Rattle.script_spec.specs.Text.{words_of, after_name, decimal_value, is_numeral};
 ghost use Rattle.script_spec.specs.Text.{hex_bytes, mask_of};
-ghost use Rattle.script_spec.specs.Reading.{word_at, counted, field_at, line_at, or_among, lane_of};
-ghost use Rattle.script_spec.specs.Reading.{bytes_of, noise_of, or_reason};
+ghost use Rattle.script_spec.specs.Reading.{word_at, counted, field_at, line_named, line_at};
+ghost use Rattle.script_spec.specs.Reading.{or_among, lane_of, bytes_of, noise_of, or_reason};
 ghost use Rattle.script_spec.specs.declared.TheConstants.{WORD_FAULT, HEX_FAULT};
 ghost use Rattle.std.specs.Option.{option_copied};
-ghost use Rattle.replay_script.specs.Answers.{Gives, words_left, end_named};
+ghost use Rattle.replay_script.specs.Answers.{Gives, words_left, end_named, is_whole};
 
 use crate::lines::place_of;
 use crate::refusal::LineRefusal;
+use extended_frames::{Shown, front_shown};
 use frame_spec::LAST_NUMBER;
 use omci_core::{Bytes, Priority};
-use omci_frames::decode;
-use script_spec::{Line, MAX_DIGITS, MAX_ID, MAX_NOISE};
+use script_spec::{Document, Line, MAX_DIGITS, MAX_ID, MAX_NOISE};
 use std::alloc::Global;
 use std::marker::Model;
 
@@ -96,10 +98,23 @@ impl<'a> LineWords<'a> {
         }
     }
 
-    /// The kind of line that the words name.
+    /// The kind of line that the words name. A kind that the document doesn't have is unknown.
+    pub(crate) fn line(&mut self, document: Document) -> Result<Line, LineRefusal>
+        ensures value { Gives (λ line. (line, self.new)) result (line_at document self.old) }
+    {
+        let line = self.named_line()?;
+        if has(document, line) {
+            Ok(line)
+        } else {
+            Err(LineRefusal::WORD)
+        }
+    }
+
+    /// The kind of line that the words name, whichever document has it.
     #[tactic(auto, unfolding(script_spec::specs::Reading::line_named))]
-    pub(crate) fn line(&mut self) -> Result<Line, LineRefusal>
-        ensures value { Gives (λ line. (line, self.new)) result (line_at self.old) }
+    fn named_line(&mut self) -> Result<Line, LineRefusal>
+        ensures value { Gives (λ line. (line, self.new)) result
+            (or_reason WORD_FAULT (line_named self.old)) }
     {
         let word = self.word()?;
         match word {
@@ -207,7 +222,7 @@ impl<'a> LineWords<'a> {
         bytes_of(alloc, fewest, most, word)
     }
 
-    /// Bytes in hex that don't decode as a frame.
+    /// Bytes in hex that don't decode as a frame of either message set.
     #[tactic(auto, unfolding(script_spec::specs::Reading::field_at))]
     pub(crate) fn noise(&mut self, alloc: Global) -> Result<Bytes, LineRefusal>
         ensures value { Gives (λ bytes. (BytesSaid bytes, self.new)) result
@@ -215,6 +230,44 @@ impl<'a> LineWords<'a> {
     {
         let word = self.word()?;
         noise_of(alloc, MAX_NOISE, word)
+    }
+}
+
+/// Whether the document has lines of this kind.
+fn has(document: Document, line: Line) -> bool
+    ensures value { result ≡ has document line }
+{
+    match document {
+        Document::Script => true,
+        Document::Orders => is_order(line),
+    }
+}
+
+/// Whether lines of this kind are the manager's, so that orders have them.
+fn is_order(line: Line) -> bool
+    ensures value { result ≡ (row line).ordered }
+{
+    match line {
+        Line::Probe
+        | Line::Reset
+        | Line::Get
+        | Line::Create
+        | Line::Set
+        | Line::Delete
+        | Line::Resync
+        | Line::Audit
+        | Line::Check => true,
+        Line::Deliver
+        | Line::Flow
+        | Line::NoiseUnit
+        | Line::NoiseOlt
+        | Line::Tick
+        | Line::Sense
+        | Line::Alarm
+        | Line::CutUnit
+        | Line::CutOlt
+        | Line::StartUnit
+        | Line::StartOlt => false,
     }
 }
 
@@ -289,16 +342,30 @@ fn bytes_of(alloc: Global, fewest: usize, most: usize, word: &[u8]) -> Result<By
     Ok(bytes)
 }
 
-/// Bytes in hex, at most so many, that don't decode as a frame.
-#[tactic(auto, unfolding(frame_spec::specs::Baseline::decoded))]
+/// Bytes in hex, at most so many, that don't decode as a frame of either message set.
 fn noise_of(alloc: Global, most: usize, word: &[u8]) -> Result<Bytes, LineRefusal>
     ensures value { Gives (λ bytes. bytes) result (noise_of most word.now) }
 {
     let bytes = bytes_of(alloc, 0, most, word)?;
-    match decode(bytes.bytes()) {
-        Ok(_) => Err(LineRefusal::NOISE),
-        Err(_) => Ok(bytes),
+    if is_noise(bytes.bytes()) {
+        Ok(bytes)
+    } else {
+        Err(LineRefusal::NOISE)
     }
+}
+
+/// Whether no frame of either message set stands at the front of the bytes.
+fn is_noise(bytes: &[u8]) -> bool
+    ensures value { result ≡ is_some (any_fault_of bytes.now) }
+{
+    !is_whole(front_shown(bytes))
+}
+
+/// Whether a whole frame is shown.
+fn is_whole(shown: Shown) -> bool
+    ensures value { result ≡ is_whole shown }
+{
+    matches!(shown, Shown::Whole { .. })
 }
 
 /// The bytes that hex digits stand for, two digits for each byte; `-` stands for no byte.

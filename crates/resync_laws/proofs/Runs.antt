@@ -25,6 +25,7 @@ use Rattle.world_spec.specs.Ends.{Ends, Step, unit_got, manager_got, arrives_at,
 use Rattle.world_spec.specs.Nodes.{Nodes, Turn, first_nodes, delivery_of, delivery, nodes_after_step, flow_from, oldest_fresh, flow, acted, next_event, turn_of, step, nodes_after}
 use Rattle.world_spec.specs.History.{Told, first_told, drawn_in, tell_all, told_after, history_of}
 use Rattle.world_laws.specs.Facts.{AreReached, MayBeCarriedOut, MayBeTaken, IsAwaited}
+use Rattle.world_laws.proofs.Reading.{no_baseline}
 use Rattle.resync_laws.specs.Databases.{IsWholeDatabase}
 use Rattle.resync_laws.proofs.Lines.{Fine, StepFine, both_fine, probe_fine, submit_fine, check_fine, resync_fine, audit_fine, sense_fine, alarm_fine, second_fine, cut_unit_fine, cut_manager_fine, start_unit_fine, start_manager_fine, noise_fine, Linked, delivery_fine, first_fine}
 
@@ -207,8 +208,8 @@ module _ (p : Promises) where
   acted_fine Check k n t f r h = check_fine n t f
   acted_fine (Deliver number) k n t f r h = delivery_fine number n t f (linked_of k n t r)
   acted_fine (Flow times) k n t f r h = flow_fine times n t k f r
-  acted_fine (NoiseUnit bytes) k n t f r h = noise_fine Down bytes n t f h.0.0
-  acted_fine (NoiseOlt bytes) k n t f r h = noise_fine Up bytes n t f h.0.0
+  acted_fine (NoiseUnit bytes) k n t f r h = noise_fine Down bytes n t f (no_baseline bytes h.0.0)
+  acted_fine (NoiseOlt bytes) k n t f r h = noise_fine Up bytes n t f (no_baseline bytes h.0.0)
   acted_fine Tick k n t f r h = second_fine n t f
   acted_fine (Sense entity number value) k n t f r h = sense_fine entity number value n t f
   acted_fine (Alarm entity bitmap) k n t f r h = alarm_fine entity (filled BITMAP_BYTES bitmap) n t f

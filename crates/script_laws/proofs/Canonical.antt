@@ -18,6 +18,7 @@ use Rattle.hex.specs.Hex.{encode_lower, decode_of, is_hex_digit}
 use Rattle.hex.proofs.HexLemmas.{decode_of-encode_lower, decode_of-ok}
 use Rattle.omci_types.specs.declared.Priority.{Priority}
 use Rattle.omci_types.specs.declared.Priority.TheVariants.{Low, High}
+use Rattle.script_spec.specs.declared.Document.TheVariants as documents
 use Rattle.script_spec.specs.declared.Line.{Line}
 use Rattle.script_spec.specs.declared.Line.TheVariants.{Probe as probe}
 use Rattle.script_spec.specs.declared.TheConstants.{LAST_PACKET, MAX_MASK}
@@ -29,7 +30,7 @@ use Rattle.script_spec.specs.Script.{IsScript}
 use Rattle.script_spec.specs.Text.{lane_text, value_from, decimal_value}
 use Rattle.script_spec.specs.Grammar.{SpellsNumber, SpellsMask, SpellsBytes, IsTextOf}
 use Rattle.script_spec.specs.Grammar.{SpellEach, BeginsWithLine, feed, WritesActions, no_line}
-use Rattle.script_spec.specs.Grammar.{action_line, header_line, Writes}
+use Rattle.script_spec.specs.Grammar.{action_line, first_line, Writes}
 use Rattle.script_spec.specs.Canonical.{hex_text, word_text, words_text, line_text, action_text}
 use Rattle.script_spec.specs.Canonical.{canonical}
 use Rattle.script_laws.proofs.Lines.{NoReturn}
@@ -301,20 +302,20 @@ module _ (line : Row) (named : is_name line.name ≡ true) (printed : is_printed
 -- ---- scripts
 
 actions_written : (actions : List Action) → All IsAction actions
-    → WritesActions actions (flat_map action_text actions)
-actions_written [] h = no_line
+    → WritesActions documents.Script actions (flat_map action_text actions)
+actions_written [] h = no_line documents.Script
 actions_written (action ∷ actions) h =
     let line = row (said action).line in
     let values = (said action).values in
     let printed = row_printed (said action).line in
     let fits = All-head IsAction action actions h in
     let rest = flat_map action_text actions in
-    action_line (text_before line values) (line_text line values ++ rest) rest action actions
-    (begins line (row_named (said action).line) printed values fits rest) (
+    action_line documents.Script (text_before line values) (line_text line values ++ rest) rest
+    action actions (begins line (row_named (said action).line) printed values fits rest) (
       word_texts line.fields values,
       refl,
       spelled line (row_named (said action).line) printed values fits,
-    )
+    ) refl
     (actions_written actions (All-tail IsAction action actions h))
 
 header_fits : (header : Header) → IsHeader header
@@ -335,7 +336,12 @@ canonical_written script h =
     let values = header_values script.header in
     let fits = header_fits script.header h.header in
     let rest = flat_map action_text script.actions in
-    header_line (text_before line values) (line_text line values ++ rest) rest script.header
-    script.actions (begins line refl refl values fits rest)
-    (word_texts line.fields values, refl, spelled line refl refl values fits)
-    (actions_written script.actions h.actions)
+    record {
+      text = text_before line values;
+      rest = rest;
+      opens =
+          first_line (line_text line values ++ rest) (text_before line values) rest
+          (begins line refl refl values fits rest);
+      header = (word_texts line.fields values, refl, spelled line refl refl values fits);
+      actions = actions_written script.actions h.actions;
+    }

@@ -1,21 +1,27 @@
 -- The first fault by the grammar's words is the fault at which reading stops.
-use Rattle.std.proofs.Common.{◌≡◌, ℕ, ◌+◌, Bool, true, false, cond, List, [], ◌∷◌, ◌++◌, Option}
-use Rattle.std.proofs.Common.{Some, None, Result, Ok, Err, refl, sym, ap, ◌∙◌, subst}
+use Rattle.std.proofs.Common.{◌≡◌, ℕ, ◌+◌, Bool, true, false, cond, List, [], ◌∷◌, ◌++◌, length}
+use Rattle.std.proofs.Common.{Option, Some, None, Result, Ok, Err, refl, sym, ap, ◌∙◌, subst}
 use Rattle.std.specs.Prelude.{is_none}
 use Rattle.std.specs.Result.{result_err}
+use Rattle.script_spec.specs.declared.Document.{Document}
+use Rattle.script_spec.specs.declared.Document.TheVariants as documents
 use Rattle.script_spec.specs.declared.Line.{Line}
 use Rattle.script_spec.specs.declared.TheConstants.{WORD_FAULT, HEADER_FAULT}
 use Rattle.script_spec.specs.Script.{Action, row, action_with, Header, header_name, header_row}
-use Rattle.script_spec.specs.Script.{header_values, header_with, Script}
+use Rattle.script_spec.specs.Script.{header_values, header_with, Script, OrdersHeader, orders_row}
+use Rattle.script_spec.specs.Script.{orders_header_with, Orders}
 use Rattle.script_spec.specs.Text.{lines_of, words_of, after_name, is_passed_over, decimal_value}
+use Rattle.script_spec.specs.Text.{opening}
 use Rattle.script_spec.specs.Grammar.{SpellEach}
 use Rattle.script_spec.specs.Fault.{first_of, words_fault, named_fault, line_fault, are_header}
-use Rattle.script_spec.specs.Fault.{is_header, at_line, event_fault, events_fault, script_fault}
-use Rattle.script_spec.specs.Fault.{fault}
-use Rattle.script_spec.specs.Reading.{◌>>=◌, or_reason, values_at, line_named, action_at}
-use Rattle.script_spec.specs.Reading.{line_action, header_at, on_line, as_header, event_at}
-use Rattle.script_spec.specs.Reading.{events_reading, script_with, script_reading, reading}
-use Rattle.script_spec.specs.Reading.{with_action}
+use Rattle.script_spec.specs.Fault.{is_header, are_orders_header, is_orders_header, at_line}
+use Rattle.script_spec.specs.Fault.{event_fault, events_fault, fault_from, first_fault, fault}
+use Rattle.script_spec.specs.Fault.{orders_fault}
+use Rattle.script_spec.specs.Reading.{◌>>=◌, or_reason, counted, values_at, line_named, known_in}
+use Rattle.script_spec.specs.Reading.{action_at, line_action, header_at, orders_header_at, on_line}
+use Rattle.script_spec.specs.Reading.{as_header, event_at, events_reading, read_from}
+use Rattle.script_spec.specs.Reading.{whole_reading, script_of, reading, orders_of}
+use Rattle.script_spec.specs.Reading.{orders_reading, with_action}
 use Rattle.script_laws.proofs.Fields.{values_spell, values_spelled, spell_length, each_fits}
 use Rattle.script_laws.proofs.Fields.{all_same, words_fault-values, size_from_fault}
 use Rattle.script_laws.proofs.Fields.{counted_fault-values}
@@ -29,9 +35,10 @@ action_fault : (line : Line) (words : List (List ℕ))
 unfolding action_at
 action_fault line words = counted_fault-values (row line).fields words (action_with line)
 
-line_fault-reading : (words : List (List ℕ)) → line_fault words ≡ result_err (line_action words)
+line_fault-reading : (document : Document) (words : List (List ℕ))
+    → line_fault document words ≡ result_err (line_action document words)
 unfolding line_fault line_action
-line_fault-reading words = by_line (line_named words)
+line_fault-reading document words = by_line (known_in document (line_named words))
   where
     by_line : (o : Option (Line × List (List ℕ)))
         → named_fault o ≡ result_err (or_reason WORD_FAULT o >>= λ found. action_at found.0 found.1)
@@ -103,6 +110,34 @@ header_back words header h =
     let s = header_spells words header h in
     ap (λ ws. are_header (after_name header_name ws)) s.1 ∙ header_counts header s.0 s.2
 
+-- ---- headers of orders
+
+-- words are those of a header of orders where reading them has no fault
+orders_test : (words : List (List ℕ))
+    → is_orders_header words ≡ is_none (result_err (orders_header_at words))
+unfolding is_orders_header orders_header_at
+orders_test words = by_name (after_name orders_row.name words)
+  where
+    by_name : (o : Option (List (List ℕ)))
+        → are_orders_header o
+        ≡ is_none
+        (result_err
+        (or_reason WORD_FAULT o >>= λ after. counted (length orders_row.fields) after >>= λ parts.
+        values_at orders_row.fields parts >>= λ values. Ok (orders_header_with values)))
+    by_name (Some words) =
+        ap is_none (counted_fault-values orders_row.fields words orders_header_with)
+    by_name None = refl
+
+orders_there : (words : List (List ℕ)) → is_orders_header words ≡ true
+    → (header : OrdersHeader) × (orders_header_at words ≡ Ok header)
+orders_there words h =
+    no_err (orders_header_at words)
+    (none_from (result_err (orders_header_at words)) (sym (orders_test words) ∙ h))
+
+orders_back : (words : List (List ℕ)) (header : OrdersHeader) → orders_header_at words ≡ Ok header
+    → is_orders_header words ≡ true
+orders_back words header h = orders_test words ∙ ap (λ r. is_none (result_err r)) h
+
 -- ---- lines
 
 with_action_err : {E : Type 0} (a : Option Action) (r : Result (List Action) E)
@@ -110,19 +145,22 @@ with_action_err : {E : Type 0} (a : Option Action) (r : Result (List Action) E)
 with_action_err a (Ok later) = refl
 with_action_err a (Err e) = refl
 
-event_fault-reading : (text : List ℕ) → event_fault text ≡ result_err (event_at text)
+event_fault-reading : (document : Document) (text : List ℕ)
+    → event_fault document text ≡ result_err (event_at document text)
 unfolding event_at
-event_fault-reading text = by_test (is_passed_over text)
+event_fault-reading document text = by_test (is_passed_over text)
   where
     kept : (r : Result Action ℕ) → result_err r ≡ result_err (r >>= λ action. Ok (Some action))
     kept (Ok action) = refl
     kept (Err e) = refl
 
     by_test : (b : Bool)
-        → cond b None (line_fault (words_of text))
-        ≡ result_err (cond b (Ok None) (line_action (words_of text) >>= λ action. Ok (Some action)))
+        → cond b None (line_fault document (words_of text))
+        ≡ result_err
+        (cond b (Ok None) (line_action document (words_of text) >>= λ action. Ok (Some action)))
     by_test true = refl
-    by_test false = line_fault-reading (words_of text) ∙ kept (line_action (words_of text))
+    by_test false =
+        line_fault-reading document (words_of text) ∙ kept (line_action document (words_of text))
 
 -- one line before others
 line_before : (line : ℕ) (found : Result (Option Action) ℕ) (others : Result (List Action) (ℕ × ℕ))
@@ -131,77 +169,103 @@ line_before : (line : ℕ) (found : Result (Option Action) ℕ) (others : Result
 line_before line (Ok a) others = sym (with_action_err a others)
 line_before line (Err reason) others = refl
 
-events_fault-reading : (line : ℕ) (texts : List (List ℕ))
-    → events_fault line texts ≡ result_err (events_reading line texts)
+events_fault-reading : (document : Document) (line : ℕ) (texts : List (List ℕ))
+    → events_fault document line texts ≡ result_err (events_reading document line texts)
 unfolding events_fault events_reading
-events_fault-reading line [] = refl
-events_fault-reading line (text ∷ texts) =
-    ap (λ o. first_of (at_line line o) (events_fault (line + 1) texts)) (event_fault-reading text)
-    ∙ ap (λ o. first_of (at_line line (result_err (event_at text))) o)
-    (events_fault-reading (line + 1) texts)
-    ∙ line_before line (event_at text) (events_reading (line + 1) texts)
+events_fault-reading document line [] = refl
+events_fault-reading document line (text ∷ texts) =
+    ap (λ o. first_of (at_line line o) (events_fault document (line + 1) texts))
+    (event_fault-reading document text)
+    ∙ ap (λ o. first_of (at_line line (result_err (event_at document text))) o)
+    (events_fault-reading document (line + 1) texts)
+    ∙ line_before line (event_at document text) (events_reading document (line + 1) texts)
 
-abbrev script_of : Header → List Action → Script
-script_of header actions = record { header = header; actions = actions }
+-- ---- the whole
 
-script_err : (line : ℕ) (texts : List (List ℕ)) (header : Header)
-    → result_err (events_reading line texts) ≡ result_err (script_with line texts header)
-script_err line texts header = kept (events_reading line texts)
-  where
-    kept : (r : Result (List Action) (ℕ × ℕ))
-        → result_err r ≡ result_err (r >>= λ actions. Ok (script_of header actions))
-    kept (Ok actions) = refl
-    kept (Err e) = refl
+module _ {A B : Type 0} (is_head : List (List ℕ) → Bool) (head : List (List ℕ) → Result A ℕ)
+    (made : A → List Action → B) (document : Document)
+    (there : (words : List (List ℕ)) → is_head words ≡ true
+    → (header : A) × (head words ≡ Ok header))
+    (back : (words : List (List ℕ)) (header : A) → head words ≡ Ok header
+    → is_head words ≡ true) where
+  made_err : (header : A) (read : Result (List Action) (ℕ × ℕ))
+      → result_err read ≡ result_err (read >>= λ actions. Ok (made header actions))
+  made_err header (Ok actions) = refl
+  made_err header (Err e) = refl
 
--- a header's line before others
-header_before : (line : ℕ) (texts : List (List ℕ)) (b : Bool) (read : Result Header ℕ)
-    → (b ≡ true → (header : Header) × (read ≡ Ok header))
-    → ((header : Header) → read ≡ Ok header → b ≡ true)
-    → cond b (events_fault (line + 1) texts) (Some (line, HEADER_FAULT))
-    ≡ result_err (as_header line read >>= script_with (line + 1) texts)
-header_before line texts true (Ok header) there back =
-    events_fault-reading (line + 1) texts ∙ script_err (line + 1) texts header
-header_before line texts true (Err reason) there back = absurd (missing (there refl).1)
-  where
-    missing : {header : Header} → Err reason ≡ Ok header → ⊥
-    missing e = cc
-header_before line texts false (Ok header) there back = absurd (wrong (back header refl))
-  where
-    wrong : false ≡ true → ⊥
-    wrong e = cc
-header_before line texts false (Err reason) there back = refl
+  -- a header's line before others
+  header_before : (line : ℕ) (texts : List (List ℕ)) (b : Bool) (read : Result A ℕ)
+      → (b ≡ true → (header : A) × (read ≡ Ok header))
+      → ((header : A) → read ≡ Ok header → b ≡ true)
+      → cond b (events_fault document (line + 1) texts) (Some (line, HEADER_FAULT))
+      ≡ result_err
+      (as_header line read >>= λ header. events_reading document (line + 1) texts >>= λ actions.
+      Ok (made header actions))
+  header_before line texts true (Ok header) there back =
+      events_fault-reading document (line + 1) texts
+      ∙ made_err header (events_reading document (line + 1) texts)
+  header_before line texts true (Err reason) there back = absurd (missing (there refl).1)
+    where
+      missing : {header : A} → Err reason ≡ Ok header → ⊥
+      missing e = cc
+  header_before line texts false (Ok header) there back = absurd (wrong (back header refl))
+    where
+      wrong : false ≡ true → ⊥
+      wrong e = cc
+  header_before line texts false (Err reason) there back = refl
 
-script_fault-reading : (line : ℕ) (texts : List (List ℕ))
-    → script_fault line texts ≡ result_err (script_reading line texts)
-unfolding script_fault script_reading
-script_fault-reading line [] = refl
-script_fault-reading line (text ∷ texts) =
-    by_test (is_passed_over text) _ _ (script_reading (line + 1) texts)
-    (as_header line (header_at (words_of text)) >>= script_with (line + 1) texts)
-    (script_fault-reading (line + 1) texts)
-    (header_before line texts (is_header (words_of text)) (header_at (words_of text))
-    (header_there (words_of text)) (header_back (words_of text)))
-  where
-    by_test : (b : Bool) (f g : Option (ℕ × ℕ)) (r s : Result Script (ℕ × ℕ)) → f ≡ result_err r
-        → g ≡ result_err s → cond b f g ≡ result_err (cond b r s)
-    by_test true f g r s e h = e
-    by_test false f g r s e h = h
+  from_opening : (line : ℕ) (texts : List (List ℕ))
+      → fault_from is_head document line texts
+      ≡ result_err (read_from head made document line texts)
+  from_opening line [] = refl
+  from_opening line (text ∷ texts) =
+      header_before line texts (is_head (words_of text)) (head (words_of text))
+      (there (words_of text)) (back (words_of text))
+
+  first_fault-reading : (bytes : List ℕ)
+      → first_fault is_head document bytes ≡ result_err (whole_reading head made document bytes)
+  first_fault-reading bytes =
+      from_opening (opening 1 (lines_of bytes)).0 (opening 1 (lines_of bytes)).1
+
+-- where reading stops
+stops : {B : Type 0} (r : Result B (ℕ × ℕ)) (f : ℕ × ℕ) → result_err r ≡ Some f → r ≡ Err f
+stops (Ok whole) f e = cc
+stops (Err g) f e = ap Err cc
 
 -- the first fault is where reading stops
 pub fault-reading : (bytes : List ℕ) → fault bytes ≡ result_err (reading bytes)
 unfolding fault reading
-fault-reading bytes = script_fault-reading 1 (lines_of bytes)
+fault-reading bytes =
+    first_fault-reading is_header header_at script_of documents.Script header_there header_back
+    bytes
 
 pub fault_from_reading : (bytes : List ℕ) (f : ℕ × ℕ) → reading bytes ≡ Err f → fault bytes ≡ Some f
 fault_from_reading bytes f h = fault-reading bytes ∙ ap result_err h
 
 pub reading_from_fault : (bytes : List ℕ) (f : ℕ × ℕ) → fault bytes ≡ Some f → reading bytes ≡ Err f
-reading_from_fault bytes f h = stops (reading bytes) (sym (fault-reading bytes) ∙ h)
-  where
-    stops : (r : Result Script (ℕ × ℕ)) → result_err r ≡ Some f → r ≡ Err f
-    stops (Ok script) e = cc
-    stops (Err g) e = ap Err cc
+reading_from_fault bytes f h = stops (reading bytes) f (sym (fault-reading bytes) ∙ h)
 
 pub no_fault_from_reading : (bytes : List ℕ) (script : Script) → reading bytes ≡ Ok script
     → fault bytes ≡ None
 no_fault_from_reading bytes script h = fault-reading bytes ∙ ap result_err h
+
+-- the same of orders
+pub orders_fault-reading : (bytes : List ℕ)
+    → orders_fault bytes ≡ result_err (orders_reading bytes)
+unfolding orders_fault orders_reading
+orders_fault-reading bytes =
+    first_fault-reading is_orders_header orders_header_at orders_of documents.Orders orders_there
+    orders_back bytes
+
+pub orders_fault_from_reading : (bytes : List ℕ) (f : ℕ × ℕ) → orders_reading bytes ≡ Err f
+    → orders_fault bytes ≡ Some f
+orders_fault_from_reading bytes f h = orders_fault-reading bytes ∙ ap result_err h
+
+pub orders_reading_from_fault : (bytes : List ℕ) (f : ℕ × ℕ) → orders_fault bytes ≡ Some f
+    → orders_reading bytes ≡ Err f
+orders_reading_from_fault bytes f h =
+    stops (orders_reading bytes) f (sym (orders_fault-reading bytes) ∙ h)
+
+pub no_orders_fault : (bytes : List ℕ) (orders : Orders) → orders_reading bytes ≡ Ok orders
+    → orders_fault bytes ≡ None
+no_orders_fault bytes orders h = orders_fault-reading bytes ∙ ap result_err h

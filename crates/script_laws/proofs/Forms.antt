@@ -19,8 +19,8 @@ use Rattle.hex.proofs.HexLemmas.{decode_of-ok, decode_of-digits, decode_sized-ok
 use Rattle.hex.proofs.HexLemmas.{decode_sized-twice}
 use Rattle.omci_types.specs.declared.Priority.{Priority}
 use Rattle.omci_types.specs.declared.Priority.TheVariants.{Low, High}
-use Rattle.frame_spec.specs.declared.FrameFault.{FrameFault}
-use Rattle.frame_spec.specs.Baseline.{fault_of}
+use Rattle.extended_spec.specs.declared.AnyFault.{AnyFault}
+use Rattle.extended_spec.specs.Frames.{any_fault_of}
 use Rattle.script_spec.specs.declared.TheConstants.{MAX_DIGITS, MAX_MASK, WORD_FAULT, NUMBER_FAULT}
 use Rattle.script_spec.specs.declared.TheConstants.{HEX_FAULT, NOISE_FAULT}
 use Rattle.script_spec.specs.Fields.{Value, Lane, Number, Bytes, lane_in, number_in, bytes_in, Form}
@@ -258,12 +258,12 @@ mask_range mask word s =
 abbrev pub IsNoiseHexOf : ℕ → List ℕ → List ℕ → Type 0
 IsNoiseHexOf most bytes word = IsHexOf 0 most bytes word × IsNoise bytes
 
-noise_with_ok : (found : Option FrameFault) (bytes noise : List ℕ)
+noise_with_ok : (found : Option AnyFault) (bytes noise : List ℕ)
     → noise_with found bytes ≡ Ok noise → (bytes ≡ noise) × (found ≢ None)
 noise_with_ok (Some fault) bytes noise h = (ok_same h, λ e. cc)
 noise_with_ok None bytes noise h = cc
 
-noise_with_fault : (found : Option FrameFault) (bytes : List ℕ) → found ≢ None
+noise_with_fault : (found : Option AnyFault) (bytes : List ℕ) → found ≢ None
     → noise_with found bytes ≡ Ok bytes
 noise_with_fault (Some fault) bytes h = refl
 noise_with_fault None bytes h = absurd (h refl)
@@ -272,16 +272,16 @@ noise_spells : (most : ℕ) (word bytes : List ℕ) → noise_of most word ≡ O
     → IsNoiseHexOf most bytes word
 noise_spells most word bytes h =
     let found = bind_ok (or_reason HEX_FAULT (bytes_of 0 most word)) _ bytes h in
-    let noise = noise_with_ok (fault_of found.0) found.0 bytes found.2 in
+    let noise = noise_with_ok (any_fault_of found.0) found.0 bytes found.2 in
     let read = or_reason_ok HEX_FAULT (bytes_of 0 most word) found.0 found.1 in
     (bytes_spell 0 most word bytes (read ∙ ap Some noise.0), subst IsNoise noise.0 noise.1)
 
 noise_spelled : (most : ℕ) (word bytes : List ℕ) → IsNoiseHexOf most bytes word
     → noise_of most word ≡ Ok bytes
 noise_spelled most word bytes s =
-    ap (λ o. or_reason HEX_FAULT o >>= λ found. noise_with (fault_of found) found)
+    ap (λ o. or_reason HEX_FAULT o >>= λ found. noise_with (any_fault_of found) found)
     (bytes_spelled 0 most word bytes s.0)
-    ∙ noise_with_fault (fault_of bytes) bytes s.1
+    ∙ noise_with_fault (any_fault_of bytes) bytes s.1
 
 -- ---- words of each form
 
@@ -523,13 +523,13 @@ or_agree reason false false x y = refl
 noise_agree : (word : List ℕ) (most : ℕ) (o : Option (List ℕ))
     → ((bytes : List ℕ) → o ≡ Some bytes → hex_bytes word ≡ Some bytes)
     → first_of (result_err (or_reason HEX_FAULT o)) (unless (is_noise word) NOISE_FAULT)
-    ≡ result_err (or_reason HEX_FAULT o >>= λ found. noise_with (fault_of found) found)
+    ≡ result_err (or_reason HEX_FAULT o >>= λ found. noise_with (any_fault_of found) found)
 noise_agree word most None same = refl
 noise_agree word most (Some bytes) same =
-    ap (λ h. unless (is_some (fault_of (unwrap_or h []))) NOISE_FAULT) (same bytes refl)
-    ∙ by_fault (fault_of bytes) bytes
+    ap (λ h. unless (is_some (any_fault_of (unwrap_or h []))) NOISE_FAULT) (same bytes refl)
+    ∙ by_fault (any_fault_of bytes) bytes
   where
-    by_fault : (found : Option FrameFault) (bytes : List ℕ)
+    by_fault : (found : Option AnyFault) (bytes : List ℕ)
         → unless (is_some found) NOISE_FAULT ≡ result_err (noise_with found bytes)
     by_fault (Some fault) bytes = refl
     by_fault None bytes = refl

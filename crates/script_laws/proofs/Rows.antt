@@ -2,16 +2,20 @@
 use Rattle.std.proofs.Common.{◌≡◌, ℕ, List, [], ◌∷◌, ◌++◌, Some, None, Ok, refl}
 use Rattle.std.specs.Prelude.{codes}
 use Rattle.omci_types.specs.declared.Priority.TheVariants.{Low, High}
-use Rattle.frame_spec.specs.Baseline.{fault_of, trailer_at, given_check, computed_check}
+use Rattle.frame_spec.specs.Baseline.{fault_of, trailer_at, number_at, given_check}
+use Rattle.frame_spec.specs.Baseline.{computed_check}
 use Rattle.frame_spec.specs.Checksum.{bits_of, number_of, inverted_bit, inverted, add_to_front}
 use Rattle.frame_spec.specs.Checksum.{generator, without_first, divide, message_bits, dividend, crc}
+use Rattle.extended_spec.specs.Frames.{length_at, long_given, long_computed, long_fault_of}
+use Rattle.extended_spec.specs.Frames.{is_extended, any_fault_of}
 use Rattle.script_spec.specs.Script.{Probe, Get, Set, Flow, NoiseUnit, NoiseOlt, Tick, CutUnit}
-use Rattle.script_spec.specs.Script.{CutOlt, StartUnit, StartOlt}
-use Rattle.script_spec.specs.Text.{lines_of, words_of, decimal_value, hex_bytes, mask_of}
-use Rattle.script_spec.specs.Fault.{fault, script_fault, events_fault, line_fault, is_header}
-use Rattle.script_spec.specs.Reading.{reading, script_reading, events_reading, event_at}
-use Rattle.script_spec.specs.Reading.{line_action, line_named}
-use Rattle.script_spec.specs.Reading.{field_at, action_at, header_at}
+use Rattle.script_spec.specs.Script.{CutOlt, StartUnit, StartOlt, Resync}
+use Rattle.script_spec.specs.Text.{lines_of, words_of, opening, decimal_value, hex_bytes, mask_of}
+use Rattle.script_spec.specs.Fault.{fault, orders_fault, events_fault, line_fault, is_header}
+use Rattle.script_spec.specs.Fault.{is_orders_header}
+use Rattle.script_spec.specs.Reading.{reading, orders_reading, events_reading, event_at}
+use Rattle.script_spec.specs.Reading.{line_action, line_named, field_at, action_at, header_at}
+use Rattle.script_spec.specs.Reading.{orders_header_at}
 use Rattle.script_spec.specs.Canonical.{canonical, line_text}
 use Rattle.std.specs.Fmt.{digits}
 use Rattle.hex.specs.Hex.{decode_pairs, encode_with}
@@ -29,7 +33,7 @@ reads_lines : reading
       header = record { room = 16; low = 1; high = 32767; factory = 0 ∷ 255 ∷ [] };
       actions = Get Low (record { class = 2; instance = 0 }) 32768 ∷ Flow 65536 ∷ [];
     })
-unfolding reading script_reading events_reading event_at line_action line_named field_at action_at
+unfolding reading opening events_reading event_at line_action line_named field_at action_at
     header_at lines_of words_of decimal_value hex_bytes mask_of decode_pairs
 reads_lines = refl
 
@@ -43,7 +47,7 @@ reads_names : reading
           Probe High ∷ Tick ∷ CutUnit ∷ StartUnit ∷ CutOlt ∷ StartOlt 7 32767
           ∷ Set High (record { class = 272; instance = 5 }) 32768 (10 ∷ []) ∷ [];
     })
-unfolding reading script_reading events_reading event_at line_action line_named field_at action_at
+unfolding reading opening events_reading event_at line_action line_named field_at action_at
     header_at lines_of words_of decimal_value hex_bytes mask_of decode_pairs
 reads_names = refl
 
@@ -52,43 +56,43 @@ reads_noise : reading (header ++ line (codes "noise unit 00") ++ line (codes "no
       header = record { room = 16; low = 1; high = 32767; factory = 0 ∷ 255 ∷ [] };
       actions = NoiseUnit (0 ∷ []) ∷ NoiseOlt [] ∷ [];
     })
-unfolding reading script_reading events_reading event_at line_action line_named field_at action_at
-    header_at lines_of words_of decimal_value hex_bytes mask_of decode_pairs fault_of trailer_at
-    given_check computed_check bits_of number_of inverted_bit inverted add_to_front generator
-    without_first divide message_bits dividend crc
+unfolding reading opening events_reading event_at line_action line_named field_at action_at
+    header_at lines_of words_of decimal_value hex_bytes mask_of decode_pairs any_fault_of
+    is_extended fault_of trailer_at given_check computed_check bits_of number_of inverted_bit
+    inverted add_to_front generator without_first divide message_bits dividend crc
 reads_noise = refl
 
 no_input : fault [] ≡ Some (1, 4)
-unfolding fault script_fault lines_of
+unfolding fault opening lines_of
 no_input = refl
 
 -- a number of two digits where four are wanted, in the third line
 short_mask : fault (header ++ line (codes "# a note") ++ line (codes "get low 2 0 80"))
     ≡ Some (3, 3)
-unfolding fault script_fault events_fault line_fault line_named is_header lines_of words_of
+unfolding fault opening events_fault line_fault line_named is_header lines_of words_of
     decimal_value
 short_mask = refl
 
 -- a carriage return in the middle of a line, and the words after it
 return_inside : fault (header ++ codes "flow" ++ line (13 ∷ codes " 1")) ≡ Some (2, 1)
-unfolding fault script_fault events_fault line_fault line_named is_header lines_of words_of
+unfolding fault opening events_fault line_fault line_named is_header lines_of words_of
     decimal_value
 return_inside = refl
 
 -- a carriage return at the end of the input is no part of the line's end
 return_last : fault (header ++ codes "flow 1" ++ (13 ∷ [])) ≡ Some (2, 2)
-unfolding fault script_fault events_fault line_fault line_named is_header lines_of words_of
+unfolding fault opening events_fault line_fault line_named is_header lines_of words_of
     decimal_value
 return_last = refl
 
 valid : fault (header ++ codes "create low 272 5 -") ≡ None
-unfolding fault script_fault events_fault line_fault line_named is_header lines_of words_of
+unfolding fault opening events_fault line_fault line_named is_header lines_of words_of
     decimal_value
 valid = refl
 
 -- neither end of the channel
 no_end : fault (header ++ line (codes "cut onu")) ≡ Some (2, 1)
-unfolding fault script_fault events_fault line_fault line_named is_header lines_of words_of
+unfolding fault opening events_fault line_fault line_named is_header lines_of words_of
     decimal_value
 no_end = refl
 
@@ -96,17 +100,17 @@ no_end = refl
 -- numbers.
 unit_with_numbers : fault (header ++ line (codes "start olt 1 1") ++ line (codes "start unit 1 1"))
     ≡ Some (3, 1)
-unfolding fault script_fault events_fault line_fault line_named is_header lines_of words_of
+unfolding fault opening events_fault line_fault line_named is_header lines_of words_of
     decimal_value
 unit_with_numbers = refl
 
 olt_without_number : fault (header ++ line (codes "start olt 0")) ≡ Some (2, 1)
-unfolding fault script_fault events_fault line_fault line_named is_header lines_of words_of
+unfolding fault opening events_fault line_fault line_named is_header lines_of words_of
     decimal_value
 olt_without_number = refl
 
 olt_from_zero : fault (header ++ line (codes "start olt 1 0")) ≡ Some (2, 2)
-unfolding fault script_fault events_fault line_fault line_named is_header lines_of words_of
+unfolding fault opening events_fault line_fault line_named is_header lines_of words_of
     decimal_value
 olt_from_zero = refl
 
@@ -114,25 +118,42 @@ olt_from_zero = refl
 whole_frame : fault (header ++ line (codes "noise unit 0001490a000200008000000000000000"
     ++ codes "0000000000000000000000000000000000000000000000000000002886d7d0d6"))
     ≡ Some (2, 5)
-unfolding fault script_fault events_fault line_fault line_named is_header lines_of words_of
-    decimal_value hex_bytes decode_pairs fault_of trailer_at given_check computed_check bits_of
-    number_of inverted_bit inverted add_to_front generator without_first divide message_bits
-    dividend crc
+unfolding fault opening events_fault line_fault line_named is_header lines_of words_of
+    decimal_value hex_bytes decode_pairs any_fault_of is_extended fault_of trailer_at given_check
+    computed_check bits_of number_of inverted_bit inverted add_to_front generator without_first
+    divide message_bits dividend crc
 whole_frame = refl
 
 -- the same with another last byte
 broken_frame : fault (header ++ line (codes "noise unit 0001490a000200008000000000000000"
     ++ codes "0000000000000000000000000000000000000000000000000000002886d7d0d7"))
     ≡ None
-unfolding fault script_fault events_fault line_fault line_named is_header lines_of words_of
-    decimal_value hex_bytes decode_pairs fault_of trailer_at given_check computed_check bits_of
-    number_of inverted_bit inverted add_to_front generator without_first divide message_bits
-    dividend crc
+unfolding fault opening events_fault line_fault line_named is_header lines_of words_of
+    decimal_value hex_bytes decode_pairs any_fault_of is_extended fault_of trailer_at given_check
+    computed_check bits_of number_of inverted_bit inverted add_to_front generator without_first
+    divide message_bits dividend crc
 broken_frame = refl
+
+-- an extended request to get ONU data, with its check value: noise that decodes too
+whole_long_frame : fault
+    (header ++ line (codes "noise olt 0001490b0002000000028000" ++ codes "a7c4e70f"))
+    ≡ Some (2, 5)
+unfolding fault opening events_fault line_fault line_named is_header lines_of words_of decimal_value
+    hex_bytes decode_pairs any_fault_of is_extended long_fault_of length_at number_at long_given
+    long_computed bits_of number_of inverted_bit inverted add_to_front generator without_first
+    divide message_bits dividend crc
+whole_long_frame = refl
+
+-- the same without its last byte
+short_long_frame : fault
+    (header ++ line (codes "noise olt 0001490b0002000000028000" ++ codes "a7c4e7")) ≡ None
+unfolding fault opening events_fault line_fault line_named is_header lines_of words_of decimal_value
+    hex_bytes decode_pairs any_fault_of is_extended long_fault_of length_at number_at
+short_long_frame = refl
 
 -- whole bytes come first, and then whether they decode
 half_byte : fault (header ++ line (codes "noise unit 0")) ≡ Some (2, 3)
-unfolding fault script_fault events_fault line_fault line_named is_header lines_of words_of
+unfolding fault opening events_fault line_fault line_named is_header lines_of words_of
     decimal_value
 half_byte = refl
 
@@ -146,3 +167,49 @@ prints_lines : canonical (record {
     ++ line (codes "noise unit ab") ++ line (codes "tick") ++ line (codes "start olt 7 32767")
 unfolding canonical line_text digits encode_with
 prints_lines = refl
+
+-- ---- orders
+
+reads_orders : orders_reading
+    (line (codes "# a note") ++ line (codes "orders 1 01 32767") ++ line []
+    ++ line (codes "probe low") ++ codes "set high 272 5 8000 0A" ++ (13 ∷ 10 ∷ [])
+    ++ codes "resync") ≡ Ok (record {
+      header = record { low = 1; high = 32767 };
+      actions =
+          Probe Low ∷ Set High (record { class = 272; instance = 5 }) 32768 (10 ∷ []) ∷ Resync ∷ [];
+    })
+unfolding orders_reading opening events_reading event_at line_action line_named field_at action_at
+    orders_header_at lines_of words_of decimal_value hex_bytes mask_of decode_pairs
+reads_orders = refl
+
+no_orders : orders_fault (line []) ≡ Some (2, 4)
+unfolding orders_fault opening lines_of
+no_orders = refl
+
+-- a script's header is none of orders
+header_of_a_script : orders_fault (header ++ line (codes "probe low")) ≡ Some (1, 4)
+unfolding orders_fault opening events_fault is_orders_header lines_of words_of decimal_value
+header_of_a_script = refl
+
+third_number : orders_fault (line (codes "orders 1 1 1 1")) ≡ Some (1, 4)
+unfolding orders_fault opening events_fault is_orders_header lines_of words_of decimal_value
+third_number = refl
+
+-- a line that scripts alone have is an unknown word, before its other words are looked at
+tick_in_orders : orders_fault (line (codes "orders 1 1 1") ++ line (codes "check")
+    ++ line (codes "tick")) ≡ Some (3, 1)
+unfolding orders_fault opening events_fault line_fault line_named is_orders_header lines_of words_of
+    decimal_value
+tick_in_orders = refl
+
+delivery_in_orders : orders_fault (line (codes "orders 1 1 1") ++ line (codes "deliver x"))
+    ≡ Some (2, 1)
+unfolding orders_fault opening events_fault line_fault line_named is_orders_header lines_of words_of
+    decimal_value
+delivery_in_orders = refl
+
+number_in_orders : orders_fault (line (codes "orders 1 1 1") ++ line (codes "delete low 65536 0"))
+    ≡ Some (2, 2)
+unfolding orders_fault opening events_fault line_fault line_named is_orders_header lines_of words_of
+    decimal_value
+number_in_orders = refl

@@ -1,4 +1,5 @@
--- The first fault of bytes that are no script: the line's number, from 1, and the reason.
+-- The first fault of bytes that are no script, or no orders: the line's number, from 1, and the
+-- reason.
 use Rattle.std.specs.Prelude.{ℕ, ◌+◌, ◌/◌, ◌%◌, Bool, true, false, ◌&&◌, ◌||◌, ◌==◌, nat_le}
 use Rattle.std.specs.Prelude.{if◌then◌else◌, List, [], ◌∷◌, length, codes, Option, Some, None}
 use Rattle.std.specs.Prelude.{is_some, is_none, unwrap_or}
@@ -6,15 +7,17 @@ use Rattle.std.specs.List.{list_all}
 use Rattle.std.specs.Str.{bytes_eq}
 use Rattle.hex.specs.Hex.{is_hex_digit}
 use Rattle.omci_types.specs.declared.Priority.TheVariants.{Low, High}
-use Rattle.frame_spec.specs.Baseline.{fault_of}
+use Rattle.extended_spec.specs.Frames.{any_fault_of}
+use Rattle.script_spec.specs.declared.Document.{Document}
+use Rattle.script_spec.specs.declared.Document.TheVariants as documents
 use Rattle.script_spec.specs.declared.Line.{Line}
 use Rattle.script_spec.specs.declared.TheConstants.{WORD_FAULT, NUMBER_FAULT, HEX_FAULT}
 use Rattle.script_spec.specs.declared.TheConstants.{HEADER_FAULT, NOISE_FAULT}
 use Rattle.script_spec.specs.Fields.{Form, LaneName, Decimal, MaskDigits, HexBytes, NoiseBytes}
-use Rattle.script_spec.specs.Script.{row, header_name, header_row}
-use Rattle.script_spec.specs.Text.{lines_of, words_of, after_name, is_passed_over, lane_text}
-use Rattle.script_spec.specs.Text.{is_number, decimal_value, hex_bytes}
-use Rattle.script_spec.specs.Reading.{line_named}
+use Rattle.script_spec.specs.Script.{row, header_name, header_row, orders_row}
+use Rattle.script_spec.specs.Text.{lines_of, words_of, after_name, is_passed_over, opening}
+use Rattle.script_spec.specs.Text.{lane_text, is_number, decimal_value, hex_bytes}
+use Rattle.script_spec.specs.Reading.{line_named, known_in}
 
 -- ---- words
 
@@ -32,9 +35,9 @@ is_hex fewest most word =
 abbrev pub is_mask : List ℕ → Bool
 is_mask word = (length word == 4) && list_all is_hex_digit word
 
--- hex of bytes that don't decode as a frame
+-- hex of bytes that don't decode as a frame of either message set
 abbrev pub is_noise : List ℕ → Bool
-is_noise word = is_some (fault_of (unwrap_or (hex_bytes word) []))
+is_noise word = is_some (any_fault_of (unwrap_or (hex_bytes word) []))
 
 -- the reason, unless the test holds
 abbrev pub unless : Bool → ℕ → Option ℕ
@@ -75,8 +78,8 @@ named_fault (Some found) = counted_fault (row found.0).fields found.1
 named_fault None = Some WORD_FAULT
 
 -- the fault of an event's line, by its words
-unfoldable pub line_fault : List (List ℕ) → Option ℕ
-line_fault words = named_fault (line_named words)
+unfoldable pub line_fault : Document → List (List ℕ) → Option ℕ
+line_fault document words = named_fault (known_in document (line_named words))
 
 -- whether the words are those of a header, after its name
 abbrev pub are_header : Option (List (List ℕ)) → Bool
@@ -87,28 +90,47 @@ are_header _ = false
 unfoldable pub is_header : List (List ℕ) → Bool
 is_header words = are_header (after_name header_name words)
 
+-- the same of orders
+abbrev pub are_orders_header : Option (List (List ℕ)) → Bool
+are_orders_header (Some words) = is_none (counted_fault orders_row.fields words)
+are_orders_header None = false
+
+unfoldable pub is_orders_header : List (List ℕ) → Bool
+is_orders_header words = are_orders_header (after_name orders_row.name words)
+
 -- the fault of a line, with the line's number
 abbrev pub at_line : ℕ → Option ℕ → Option (ℕ × ℕ)
 at_line line (Some reason) = Some (line, reason)
 at_line line None = None
 
 -- Lines that are passed over have no fault.
-abbrev pub event_fault : List ℕ → Option ℕ
-event_fault text = if is_passed_over text then None else line_fault (words_of text)
+abbrev pub event_fault : Document → List ℕ → Option ℕ
+event_fault document text =
+    if is_passed_over text then None else line_fault document (words_of text)
 
 -- the first fault of lines of events, the first of which has the number `line`
-unfoldable pub events_fault : ℕ → List (List ℕ) → Option (ℕ × ℕ)
-events_fault line [] = None
-events_fault line (text ∷ texts) =
-    first_of (at_line line (event_fault text)) (events_fault (line + 1) texts)
+unfoldable pub events_fault : Document → ℕ → List (List ℕ) → Option (ℕ × ℕ)
+events_fault document line [] = None
+events_fault document line (text ∷ texts) =
+    first_of (at_line line (event_fault document text)) (events_fault document (line + 1) texts)
 
--- the same where the header has not come. The header's line is missing, or it has a fault.
-unfoldable pub script_fault : ℕ → List (List ℕ) → Option (ℕ × ℕ)
-script_fault line [] = Some (line, HEADER_FAULT)
-script_fault line (text ∷ texts) =
-    if is_passed_over text then script_fault (line + 1) texts
-    else if is_header (words_of text) then events_fault (line + 1) texts
+-- The first fault from the header's line on, where `is_head` tells a header. The line is missing,
+-- or it has a fault, or one after it has.
+abbrev pub fault_from : (List (List ℕ) → Bool) → Document → ℕ → List (List ℕ) → Option (ℕ × ℕ)
+fault_from is_head document line [] = Some (line, HEADER_FAULT)
+fault_from is_head document line (text ∷ texts) =
+    if is_head (words_of text) then events_fault document (line + 1) texts
     else Some (line, HEADER_FAULT)
 
+-- the same of all bytes, from the first line that isn't passed over
+abbrev pub first_fault : (List (List ℕ) → Bool) → Document → List ℕ → Option (ℕ × ℕ)
+first_fault is_head document bytes =
+    fault_from is_head document (opening 1 (lines_of bytes)).0 (opening 1 (lines_of bytes)).1
+
+-- the first fault of bytes that are no script
 unfoldable pub fault : List ℕ → Option (ℕ × ℕ)
-fault bytes = script_fault 1 (lines_of bytes)
+fault bytes = first_fault is_header documents.Script bytes
+
+-- the first fault of bytes that are no orders
+unfoldable pub orders_fault : List ℕ → Option (ℕ × ℕ)
+orders_fault bytes = first_fault is_orders_header documents.Orders bytes

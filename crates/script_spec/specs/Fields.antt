@@ -3,7 +3,7 @@ use Rattle.std.specs.Prelude.{◌≢◌, ◌≤◌, ◌<◌, ℕ, List, [], ◌�
 use Rattle.std.specs.List.{All}
 use Rattle.omci_types.specs.declared.Priority.{Priority}
 use Rattle.omci_types.specs.declared.Priority.TheVariants.{Low}
-use Rattle.frame_spec.specs.Baseline.{fault_of}
+use Rattle.extended_spec.specs.Frames.{any_fault_of}
 use Rattle.script_spec.specs.declared.TheConstants.{MAX_MASK}
 
 -- what a word says
@@ -34,7 +34,7 @@ pub data Form : Type 0 where
   MaskDigits : Form
   -- two hex digits for each byte
   HexBytes : ℕ → ℕ → Form
-  -- the same, of at most so many bytes, which don't decode as a frame
+  -- the same, of at most so many bytes, which don't decode as a frame of either message set
   NoiseBytes : ℕ → Form
 
 -- each element is a byte
@@ -46,9 +46,9 @@ pub record AreBytes (most : ℕ) (values : List ℕ) : Type 0 where
   pub few : length values ≤ most
   pub bytes : IsBytes values
 
--- bytes that have a fault as a frame
+-- bytes that have a fault as a frame of either message set
 abbrev pub IsNoise : List ℕ → Type 0
-IsNoise bytes = fault_of bytes ≢ None
+IsNoise bytes = any_fault_of bytes ≢ None
 
 -- the value is one of this form
 abbrev pub Fits : Form → Value → Type 0

@@ -1,14 +1,17 @@
--- The grammar of scripts: which bytes write which script.
+-- The grammar of scripts and of orders: which bytes write which of them.
 use Rattle.std.specs.Prelude.{◌≡◌, ◌≢◌, ℕ, ◌+◌, ◌*◌, ◌≤◌, List, [], ◌∷◌, ◌++◌, length, codes, Ok}
 use Rattle.std.specs.Prelude.{◌⊎◌}
 use Rattle.std.specs.List.{All, AllPass, join_with_byte}
 use Rattle.std.specs.Char.{is_ascii_digit}
 use Rattle.hex.specs.Hex.{decode_of}
+use Rattle.script_spec.specs.declared.Document.{Document}
+use Rattle.script_spec.specs.declared.Document.TheVariants as documents
 use Rattle.script_spec.specs.declared.TheConstants.{MAX_DIGITS}
 use Rattle.script_spec.specs.Fields.{Value, Lane, Number, Bytes, Form, LaneName, Decimal}
 use Rattle.script_spec.specs.Fields.{MaskDigits, HexBytes, NoiseBytes, Fits}
-use Rattle.script_spec.specs.Script.{Action, Row, row, said, Header, header_row, header_values}
-use Rattle.script_spec.specs.Script.{Script}
+use Rattle.script_spec.specs.Script.{Action, Row, row, said, HasAction, Header, header_row}
+use Rattle.script_spec.specs.Script.{header_values, Script, OrdersHeader, orders_row, orders_values}
+use Rattle.script_spec.specs.Script.{Orders}
 use Rattle.script_spec.specs.Text.{decimal_value, lane_text}
 
 -- ---- words
@@ -67,6 +70,10 @@ SpellsAction action text = SpellsLine (row (said action).line) (said action).val
 abbrev pub SpellsHeader : Header → List ℕ → Type 0
 SpellsHeader header text = SpellsLine (header_row header.room) (header_values header) text
 
+-- the line is that of a header of orders
+abbrev pub SpellsOrdersHeader : OrdersHeader → List ℕ → Type 0
+SpellsOrdersHeader header text = SpellsLine orders_row (orders_values header) text
+
 -- an empty line, or one that begins with `#`
 abbrev pub IsPassedOver : List ℕ → Type 0
 IsPassedOver text = (text ≡ []) ⊎ ((rest : List ℕ) × (text ≡ 35 ∷ rest))
@@ -93,26 +100,37 @@ pub record BeginsWithLine (bytes text rest : List ℕ) : Type 0 where
   pub end : LineEnd
   pub whole : Ends end bytes text rest
 
--- ---- scripts
+-- ---- scripts and orders
 
--- lines that are passed over, and one line for each action
-pub data WritesActions : List Action → List ℕ → Type 0 where
-  no_line : WritesActions [] []
-  passed_line : (text bytes rest : List ℕ) (actions : List Action) → BeginsWithLine bytes text rest
-      → IsPassedOver text → WritesActions actions rest → WritesActions actions bytes
-  action_line : (text bytes rest : List ℕ) (action : Action) (actions : List Action)
-      → BeginsWithLine bytes text rest → SpellsAction action text → WritesActions actions rest
-      → WritesActions (action ∷ actions) bytes
+-- lines that are passed over, and one line for each action, of kinds that the document has
+pub data WritesActions : Document → List Action → List ℕ → Type 0 where
+  no_line : (document : Document) → WritesActions document [] []
+  passed_line : (document : Document) (text bytes rest : List ℕ) (actions : List Action)
+      → BeginsWithLine bytes text rest → IsPassedOver text → WritesActions document actions rest
+      → WritesActions document actions bytes
+  action_line : (document : Document) (text bytes rest : List ℕ) (action : Action)
+      (actions : List Action) → BeginsWithLine bytes text rest → SpellsAction action text
+      → HasAction document action → WritesActions document actions rest
+      → WritesActions document (action ∷ actions) bytes
 
--- lines that are passed over, the header's line, and the actions
-pub data WritesScript : Header → List Action → List ℕ → Type 0 where
-  passed_before : (text bytes rest : List ℕ) (header : Header) (actions : List Action)
-      → BeginsWithLine bytes text rest → IsPassedOver text → WritesScript header actions rest
-      → WritesScript header actions bytes
-  header_line : (text bytes rest : List ℕ) (header : Header) (actions : List Action)
-      → BeginsWithLine bytes text rest → SpellsHeader header text → WritesActions actions rest
-      → WritesScript header actions bytes
+-- the bytes are lines that are passed over, a line of this text, and a rest
+pub data Opens : List ℕ → List ℕ → List ℕ → Type 0 where
+  first_line : (bytes text rest : List ℕ) → BeginsWithLine bytes text rest → Opens bytes text rest
+  later_line : (passed bytes left text rest : List ℕ) → BeginsWithLine bytes passed left
+      → IsPassedOver passed → Opens left text rest → Opens bytes text rest
 
--- the bytes are a text of this script
-abbrev pub Writes : Script → List ℕ → Type 0
-Writes script bytes = WritesScript script.header script.actions bytes
+-- the bytes are a text of this script: its header's line, and the lines of its actions
+pub record Writes (script : Script) (bytes : List ℕ) : Type 0 where
+  pub text : List ℕ
+  pub rest : List ℕ
+  pub opens : Opens bytes text rest
+  pub header : SpellsHeader script.header text
+  pub actions : WritesActions documents.Script script.actions rest
+
+-- the same of orders
+pub record WritesOrders (orders : Orders) (bytes : List ℕ) : Type 0 where
+  pub text : List ℕ
+  pub rest : List ℕ
+  pub opens : Opens bytes text rest
+  pub header : SpellsOrdersHeader orders.header text
+  pub actions : WritesActions documents.Orders orders.actions rest

@@ -1,21 +1,24 @@
--- Reading a script from left to right: what it says, or its first fault by line and reason.
+-- Reading a script or orders from left to right: what they say, or their first fault by line and
+-- reason.
 use Rattle.std.specs.Prelude.{ℕ, ◌+◌, ◌&&◌, ◌==◌, nat_le, if◌then◌else◌, List, [], ◌∷◌, length}
 use Rattle.std.specs.Prelude.{Option, Some, None, Result, Ok, Err}
 use Rattle.std.specs.Str.{bytes_eq}
 use Rattle.omci_types.specs.declared.Priority.{Priority}
 use Rattle.omci_types.specs.declared.Priority.TheVariants.{Low, High}
-use Rattle.frame_spec.specs.declared.FrameFault.{FrameFault}
-use Rattle.frame_spec.specs.Baseline.{fault_of}
+use Rattle.extended_spec.specs.declared.AnyFault.{AnyFault}
+use Rattle.extended_spec.specs.Frames.{any_fault_of}
+use Rattle.script_spec.specs.declared.Document.{Document}
+use Rattle.script_spec.specs.declared.Document.TheVariants as documents
 use Rattle.script_spec.specs.declared.Line.{Line}
 use Rattle.script_spec.specs.declared.TheConstants.{WORD_FAULT, NUMBER_FAULT, HEX_FAULT}
 use Rattle.script_spec.specs.declared.TheConstants.{HEADER_FAULT, NOISE_FAULT}
 use Rattle.script_spec.specs.Fields.{Value, Lane, Number, Bytes, number_in, Form, LaneName, Decimal}
 use Rattle.script_spec.specs.Fields.{MaskDigits, HexBytes, NoiseBytes}
-use Rattle.script_spec.specs.Script.{Action, row, all_lines, action_with, Header, header_name}
+use Rattle.script_spec.specs.Script.{Action, row, all_lines, has, action_with, Header, header_name}
 use Rattle.script_spec.specs.Script.{header_size, room_field, fields_after_room, header_with}
-use Rattle.script_spec.specs.Script.{Script}
-use Rattle.script_spec.specs.Text.{lines_of, words_of, after_name, is_passed_over, lane_text}
-use Rattle.script_spec.specs.Text.{is_number, decimal_value, hex_bytes, mask_of}
+use Rattle.script_spec.specs.Script.{Script, OrdersHeader, orders_row, orders_header_with, Orders}
+use Rattle.script_spec.specs.Text.{lines_of, words_of, after_name, is_passed_over, opening}
+use Rattle.script_spec.specs.Text.{lane_text, is_number, decimal_value, hex_bytes, mask_of}
 
 infixl 10 ◌>>=◌
 abbrev pub ◌>>=◌ : {A B E : Type 0} → Result A E → (A → Result B E) → Result B E
@@ -47,14 +50,14 @@ abbrev pub or_reason : {A : Type 0} → ℕ → Option A → Result A ℕ
 or_reason reason (Some value) = Ok value
 or_reason reason None = Err reason
 
--- bytes with this fault as a frame; bytes without one are no noise
-abbrev pub noise_with : Option FrameFault → List ℕ → Result (List ℕ) ℕ
+-- bytes with this fault as a frame of either set; bytes without one are no noise
+abbrev pub noise_with : Option AnyFault → List ℕ → Result (List ℕ) ℕ
 noise_with (Some fault) bytes = Ok bytes
 noise_with None bytes = Err NOISE_FAULT
 
 abbrev pub noise_of : ℕ → List ℕ → Result (List ℕ) ℕ
 noise_of most word =
-    or_reason HEX_FAULT (bytes_of 0 most word) >>= λ bytes. noise_with (fault_of bytes) bytes
+    or_reason HEX_FAULT (bytes_of 0 most word) >>= λ bytes. noise_with (any_fault_of bytes) bytes
 
 -- what a word says in a field of this form
 abbrev pub word_value : Form → List ℕ → Result Value ℕ
@@ -107,8 +110,13 @@ named_among (line ∷ lines) words =
 unfoldable pub line_named : List (List ℕ) → Option (Line × List (List ℕ))
 line_named words = named_among all_lines words
 
-abbrev pub line_at : List (List ℕ) → Result (Line × List (List ℕ)) ℕ
-line_at words = or_reason WORD_FAULT (line_named words)
+-- a kind of line that a document doesn't have is unknown there
+abbrev pub known_in : Document → Option (Line × List (List ℕ)) → Option (Line × List (List ℕ))
+known_in document (Some found) = if has document found.0 then Some found else None
+known_in document None = None
+
+abbrev pub line_at : Document → List (List ℕ) → Result (Line × List (List ℕ)) ℕ
+line_at document words = or_reason WORD_FAULT (known_in document (line_named words))
 
 -- what the words after a line's name ask for
 unfoldable pub action_at : Line → List (List ℕ) → Result Action ℕ
@@ -117,9 +125,9 @@ action_at line words = do
   values ← values_at (row line).fields parts
   Ok (action_with line values)
 
-unfoldable pub line_action : List (List ℕ) → Result Action ℕ
-line_action words = do
-  found ← line_at words
+unfoldable pub line_action : Document → List (List ℕ) → Result Action ℕ
+line_action document words = do
+  found ← line_at document words
   action_at found.0 found.1
 
 unfoldable pub header_at : List (List ℕ) → Result Header ℕ
@@ -130,7 +138,15 @@ header_at words = do
   values ← values_at (fields_after_room (number_in room.0)) room.1
   Ok (header_with (room.0 ∷ values))
 
--- ---- scripts
+-- the header of orders
+unfoldable pub orders_header_at : List (List ℕ) → Result OrdersHeader ℕ
+orders_header_at words = do
+  after ← or_reason WORD_FAULT (after_name orders_row.name words)
+  parts ← counted (length orders_row.fields) after
+  values ← values_at orders_row.fields parts
+  Ok (orders_header_with values)
+
+-- ---- scripts and orders
 
 -- what was read of a line, or the fault with the line's number
 abbrev pub on_line : {A : Type 0} → ℕ → Result A ℕ → Result A (ℕ × ℕ)
@@ -148,30 +164,46 @@ with_action None actions = actions
 with_action (Some action) actions = action ∷ actions
 
 -- what an event's line asks for; a line that is passed over asks for nothing
-unfoldable pub event_at : List ℕ → Result (Option Action) ℕ
-event_at text =
+unfoldable pub event_at : Document → List ℕ → Result (Option Action) ℕ
+event_at document text =
     if is_passed_over text then Ok None
-    else line_action (words_of text) >>= λ action. Ok (Some action)
+    else line_action document (words_of text) >>= λ action. Ok (Some action)
 
 -- the actions of lines of events, the first of which has the number `line`
-unfoldable pub events_reading : ℕ → List (List ℕ) → Result (List Action) (ℕ × ℕ)
-events_reading line [] = Ok []
-events_reading line (text ∷ texts) = do
-  action ← on_line line (event_at text)
-  actions ← events_reading (line + 1) texts
+unfoldable pub events_reading : Document → ℕ → List (List ℕ) → Result (List Action) (ℕ × ℕ)
+events_reading document line [] = Ok []
+events_reading document line (text ∷ texts) = do
+  action ← on_line line (event_at document text)
+  actions ← events_reading document (line + 1) texts
   Ok (with_action action actions)
 
+-- What the header's line and those after it make, where `head` reads the header. The line is
+-- missing where no line is left.
+abbrev pub read_from : {A B : Type 0} → (List (List ℕ) → Result A ℕ) → (A → List Action → B)
+    → Document → ℕ → List (List ℕ) → Result B (ℕ × ℕ)
+read_from head made document line [] = Err (line, HEADER_FAULT)
+read_from head made document line (text ∷ texts) = do
+  header ← as_header line (head (words_of text))
+  actions ← events_reading document (line + 1) texts
+  Ok (made header actions)
+
+-- the same of all bytes, from the first line that isn't passed over
+abbrev pub whole_reading : {A B : Type 0} → (List (List ℕ) → Result A ℕ) → (A → List Action → B)
+    → Document → List ℕ → Result B (ℕ × ℕ)
+whole_reading head made document bytes =
+    read_from head made document (opening 1 (lines_of bytes)).0 (opening 1 (lines_of bytes)).1
+
 -- a header and its actions
-abbrev pub script_with : ℕ → List (List ℕ) → Header → Result Script (ℕ × ℕ)
-script_with line texts header =
-    events_reading line texts >>= λ actions. Ok (record { header = header; actions = actions })
+abbrev pub script_of : Header → List Action → Script
+script_of header actions = record { header = header; actions = actions }
 
--- the same where the header has not come
-unfoldable pub script_reading : ℕ → List (List ℕ) → Result Script (ℕ × ℕ)
-script_reading line [] = Err (line, HEADER_FAULT)
-script_reading line (text ∷ texts) =
-    if is_passed_over text then script_reading (line + 1) texts
-    else as_header line (header_at (words_of text)) >>= script_with (line + 1) texts
-
+-- the script that the bytes write, or their first fault
 unfoldable pub reading : List ℕ → Result Script (ℕ × ℕ)
-reading bytes = script_reading 1 (lines_of bytes)
+reading bytes = whole_reading header_at script_of documents.Script bytes
+
+abbrev pub orders_of : OrdersHeader → List Action → Orders
+orders_of header actions = record { header = header; actions = actions }
+
+-- the orders that the bytes write, or their first fault
+unfoldable pub orders_reading : List ℕ → Result Orders (ℕ × ℕ)
+orders_reading bytes = whole_reading orders_header_at orders_of documents.Orders bytes

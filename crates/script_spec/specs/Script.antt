@@ -1,12 +1,15 @@
 -- What a script says: a header, and what each line after it asks for, by one table of the kinds of
--- lines.
-use Rattle.std.specs.Prelude.{◌≤◌, ℕ, zero, suc, List, [], ◌∷◌, length, codes}
+-- lines. Orders have a header of their own, and only the lines that are a manager's.
+use Rattle.std.specs.Prelude.{◌≡◌, ◌≤◌, ℕ, zero, suc, Bool, true, false, List, [], ◌∷◌, length}
+use Rattle.std.specs.Prelude.{codes}
 use Rattle.std.specs.List.{All}
 use Rattle.omci_types.specs.declared.Priority.{Priority}
 use Rattle.omci_types.specs.declared.EntityId.{EntityId}
 use Rattle.frame_spec.specs.declared.TheConstants.{LAST_NUMBER}
 use Rattle.script_spec.specs.declared.TheConstants.{LAST_PACKET, MAX_ID, MAX_CREATE, MAX_SET}
 use Rattle.script_spec.specs.declared.TheConstants.{MAX_ATTRIBUTE, MAX_SENSED, MAX_BITMAP, MAX_FLOW, MAX_NOISE, MAX_ROOM}
+use Rattle.script_spec.specs.declared.Document.{Document}
+use Rattle.script_spec.specs.declared.Document.TheVariants as documents
 use Rattle.script_spec.specs.declared.Line.{Line}
 use Rattle.script_spec.specs.declared.Line.TheVariants as lines
 use Rattle.script_spec.specs.Fields.{Value, Lane, Number, Bytes, lane_in, number_in, bytes_in, Form}
@@ -44,13 +47,20 @@ pub data Action : Type 0 where
 
 -- ---- the table of lines
 
--- A kind of line: the words that it begins with, and the forms of the words after them.
+-- A kind of line: the words that it begins with, the forms of the words after them, and whether
+-- orders have it.
 pub record Row : Type 0 where
   pub name : List (List ℕ)
   pub fields : List Form
+  pub ordered : Bool
 
+-- a line that scripts alone have, or a header
 abbrev pub line : List (List ℕ) → List Form → Row
-line name fields = record { name = name; fields = fields }
+line name fields = record { name = name; fields = fields; ordered = false }
+
+-- a line of the manager's, which orders have too
+abbrev pub order : List (List ℕ) → List Form → Row
+order name fields = record { name = name; fields = fields; ordered = true }
 
 -- a class, and an instance
 abbrev pub id : Form
@@ -61,15 +71,15 @@ abbrev pub lane_number : Form
 lane_number = Decimal 1 LAST_NUMBER
 
 abbrev pub row : Line → Row
-row lines.Probe = line (codes "probe" ∷ []) (LaneName ∷ [])
-row lines.Reset = line (codes "reset" ∷ []) (LaneName ∷ [])
-row lines.Get = line (codes "get" ∷ []) (LaneName ∷ id ∷ id ∷ MaskDigits ∷ [])
-row lines.Create = line (codes "create" ∷ []) (LaneName ∷ id ∷ id ∷ HexBytes 0 MAX_CREATE ∷ [])
-row lines.Set = line (codes "set" ∷ []) (LaneName ∷ id ∷ id ∷ MaskDigits ∷ HexBytes 0 MAX_SET ∷ [])
-row lines.Delete = line (codes "delete" ∷ []) (LaneName ∷ id ∷ id ∷ [])
-row lines.Resync = line (codes "resync" ∷ []) []
-row lines.Audit = line (codes "audit" ∷ []) []
-row lines.Check = line (codes "check" ∷ []) []
+row lines.Probe = order (codes "probe" ∷ []) (LaneName ∷ [])
+row lines.Reset = order (codes "reset" ∷ []) (LaneName ∷ [])
+row lines.Get = order (codes "get" ∷ []) (LaneName ∷ id ∷ id ∷ MaskDigits ∷ [])
+row lines.Create = order (codes "create" ∷ []) (LaneName ∷ id ∷ id ∷ HexBytes 0 MAX_CREATE ∷ [])
+row lines.Set = order (codes "set" ∷ []) (LaneName ∷ id ∷ id ∷ MaskDigits ∷ HexBytes 0 MAX_SET ∷ [])
+row lines.Delete = order (codes "delete" ∷ []) (LaneName ∷ id ∷ id ∷ [])
+row lines.Resync = order (codes "resync" ∷ []) []
+row lines.Audit = order (codes "audit" ∷ []) []
+row lines.Check = order (codes "check" ∷ []) []
 row lines.Deliver = line (codes "deliver" ∷ []) (Decimal 0 LAST_PACKET ∷ [])
 row lines.Flow = line (codes "flow" ∷ []) (Decimal 1 MAX_FLOW ∷ [])
 row lines.NoiseUnit = line (codes "noise" ∷ codes "unit" ∷ []) (NoiseBytes MAX_NOISE ∷ [])
@@ -89,6 +99,11 @@ all_lines =
     lines.Probe ∷ lines.Reset ∷ lines.Get ∷ lines.Create ∷ lines.Set ∷ lines.Delete
     ∷ lines.Resync ∷ lines.Audit ∷ lines.Check ∷ lines.Deliver ∷ lines.Flow ∷ lines.NoiseUnit
     ∷ lines.NoiseOlt ∷ lines.Tick ∷ lines.Sense ∷ lines.Alarm ∷ lines.CutUnit ∷ lines.CutOlt ∷ lines.StartUnit ∷ lines.StartOlt ∷ []
+
+-- whether a document has lines of this kind
+abbrev pub has : Document → Line → Bool
+has documents.Script line = true
+has documents.Orders line = (row line).ordered
 
 -- ---- an action and its line
 
@@ -185,6 +200,10 @@ action_with lines.StartOlt v = StartOlt (number_at 0 v) (number_at 1 v)
 abbrev pub IsAction : Action → Type 0
 IsAction action = AllFit (row (said action).line).fields (said action).values
 
+-- the document has lines of the action's kind
+abbrev pub HasAction : Document → Action → Type 0
+HasAction document action = has document (said action).line ≡ true
+
 -- ---- the header, and the whole
 
 -- The room of an image slot in bytes, the first numbers of the two lanes, and the image that the
@@ -244,3 +263,38 @@ pub record IsHeader (header : Header) : Type 0 where
 pub record IsScript (script : Script) : Type 0 where
   pub header : IsHeader script.header
   pub actions : All IsAction script.actions
+
+-- ---- orders
+
+-- the first numbers of the manager's two lanes
+pub record OrdersHeader : Type 0 where
+  pub low : ℕ
+  pub high : ℕ
+
+-- the row of a header of orders, and its values
+abbrev pub orders_row : Row
+orders_row = line (codes "orders" ∷ codes "1" ∷ []) (lane_number ∷ lane_number ∷ [])
+
+abbrev pub orders_values : OrdersHeader → List Value
+orders_values header = Number header.low ∷ Number header.high ∷ []
+
+abbrev pub orders_header_with : List Value → OrdersHeader
+orders_header_with v = record { low = number_at 0 v; high = number_at 1 v }
+
+-- orders: a header, and what each line after it asks for
+pub record Orders : Type 0 where
+  pub header : OrdersHeader
+  pub actions : List Action
+
+-- each number is in its range
+pub record IsOrdersHeader (header : OrdersHeader) : Type 0 where
+  pub low_some : 1 ≤ header.low
+  pub low_most : header.low ≤ LAST_NUMBER
+  pub high_some : 1 ≤ header.high
+  pub high_most : header.high ≤ LAST_NUMBER
+
+-- each number and all bytes are in their ranges, and each action is one that orders have
+pub record IsOrders (orders : Orders) : Type 0 where
+  pub header : IsOrdersHeader orders.header
+  pub actions : All IsAction orders.actions
+  pub manager : All (HasAction documents.Orders) orders.actions

@@ -34,6 +34,13 @@ abbrev pub is_passed_over : List ℕ → Bool
 is_passed_over [] = true
 is_passed_over (byte ∷ rest) = byte == 35
 
+-- the lines from the first one on that isn't passed over, and that one's number, where the first of
+-- all has the number `line`
+unfoldable pub opening : ℕ → List (List ℕ) → ℕ × List (List ℕ)
+opening line [] = (line, [])
+opening line (text ∷ texts) =
+    if is_passed_over text then opening (line + 1) texts else (line, text ∷ texts)
+
 -- ---- words
 
 -- the words of a byte and of what follows it, where `words` are the words of what follows

@@ -1,9 +1,9 @@
-//! What scripts are: one table of their lines, what each line asks for, the grammar of their bytes,
-//! and the first fault of bytes that are no script. The crate has definitions, one plain type and
-//! the limits.
+//! What scripts and orders are: one table of their lines, what each line asks for, the grammar of
+//! their bytes, and the first fault of bytes that are none. The crate has definitions, two plain
+//! types and the limits.
 #![tactic(auto)]
 
-/// The kinds of a script's lines, one for each row of the table.
+/// The kinds of lines, one for each row of the table.
 #[derive(Clone, Copy, Debug, PartialEq, Eq)]
 pub enum Line {
     Probe,
@@ -26,6 +26,15 @@ pub enum Line {
     CutOlt,
     StartUnit,
     StartOlt,
+}
+
+/// What is read from a header to its last line.
+#[derive(Clone, Copy, Debug, PartialEq, Eq)]
+pub enum Document {
+    /// A script: what both ends do, and what happens to the packets between them.
+    Script,
+    /// Orders: what the manager does.
+    Orders,
 }
 
 /// The most bytes of a script.
@@ -63,5 +72,5 @@ pub const NUMBER_FAULT: u8 = 2;
 pub const HEX_FAULT: u8 = 3;
 /// The reason of a header that is missing or has any fault.
 pub const HEADER_FAULT: u8 = 4;
-/// The reason of noise that decodes as a frame.
+/// The reason of noise that decodes as a frame of either message set.
 pub const NOISE_FAULT: u8 = 5;

@@ -28,6 +28,7 @@ use Rattle.world_spec.specs.Nodes.{Nodes, first_nodes, delivery, nodes_after_ste
 use Rattle.world_spec.specs.Nodes.{oldest_fresh, flow, acted, next_event, step, nodes_after}
 use Rattle.world_spec.specs.History.{Told, first_told, drawn_in, name_at, tell_all, told_after}
 use Rattle.world_laws.specs.Facts.{AreReached, MayCome, MayBeCarriedOut, MayBeTaken}
+use Rattle.world_laws.proofs.Reading.{no_baseline}
 use Rattle.resync_laws.proofs.Lines.{Fine, StepFine}
 use Rattle.resync_laws.proofs.Runs.{Promises, with_event, reach_step, reach_fresh, reached_fine}
 use Rattle.step_laws.proofs.Coming.{as_many}
@@ -214,8 +215,9 @@ module _ (c : Channel) where
       delivery_sure number n t f (fine_of k n t r) (linked_of k n t r) after
   acted_sure (Flow times) k n t f r h after = flow_sure times n t k f r
   acted_sure (NoiseUnit bytes) k n t f r h after =
-      noise_sure Down bytes n t f (fine_of k n t r) h.0.0
-  acted_sure (NoiseOlt bytes) k n t f r h after = noise_sure Up bytes n t f (fine_of k n t r) h.0.0
+      noise_sure Down bytes n t f (fine_of k n t r) (no_baseline bytes h.0.0)
+  acted_sure (NoiseOlt bytes) k n t f r h after =
+      noise_sure Up bytes n t f (fine_of k n t r) (no_baseline bytes h.0.0)
   acted_sure Tick k n t f r h after = second_sure n t f (fine_of k n t r)
   acted_sure CutUnit k n t f r h after = cut_unit_sure n t f (fine_of k n t r) n.ends.unit
   acted_sure CutOlt k n t f r h after = cut_manager_sure n t f (fine_of k n t r) n.ends.manager

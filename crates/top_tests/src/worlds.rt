@@ -7,14 +7,14 @@ use omci_top::{Status, omci};
 use std::alloc::Global;
 use std::test::Fail;
 
-/// Scripts of one event, or with a fault, and the events of the world that comes back where it is done.
+/// Scripts of one event, or with a fault, and the events of the world that comes back.
 const SCRIPTS: [(&[u8], Option<u64>); 2] = [
     (b"omci 1 4096 1 1 ff\nprobe low\n", Some(1)),
     (b"omci 1 4096 1 1 ff\nprobe middle\n", None),
 ];
 
-/// Whether a replay of this script gives a world of so many events exactly where it is done, and calls
-/// no disk.
+/// Whether a replay of this script gives a world of so many events exactly where it is done, and
+/// calls no disk.
 fn gives_world(alloc: Global, script: &[u8], events: Option<u64>) -> Result<bool, NoMemory> {
     let mut words = Words::new(alloc);
     words.push(b"replay")?;

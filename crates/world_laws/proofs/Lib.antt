@@ -1,5 +1,5 @@
 mod Tcis
-mod Reading
+pub mod Reading
 mod Unit
 pub mod Likeness
 pub mod Keeping

@@ -16,6 +16,7 @@ use Rattle.world_spec.specs.Nodes.{Nodes, first_nodes, step, nodes_after}
 use Rattle.world_spec.specs.History.{Told, first_told, tell_all, told_after, history_of}
 use Rattle.world_laws.proofs.Likeness.{some_manager, some_unit, after_both}
 use Rattle.world_laws.proofs.Turns.{Rests}
+use Rattle.world_laws.proofs.Reading.{no_baseline}
 use Rattle.world_laws.proofs.Lines.{IsFair, turn_follows}
 
 abbrev pub AllFair : List Action → Type 0
@@ -26,8 +27,8 @@ AllFair (a ∷ rest) = IsFair a × AllFair rest
 fair : (a : Action) → IsAction a → IsFair a
 fair (StartOlt low high) h =
     (record { some = h.0.0; most = h.0.1 }, record { some = h.1.0.0; most = h.1.0.1 })
-fair (NoiseUnit bytes) h = h.0.0
-fair (NoiseOlt bytes) h = h.0.0
+fair (NoiseUnit bytes) h = no_baseline bytes h.0.0
+fair (NoiseOlt bytes) h = no_baseline bytes h.0.0
 fair _ h = tt
 
 pub all_fair : (actions : List Action) → All IsAction actions → AllFair actions

@@ -14,9 +14,9 @@ returns-in_err-read_line c =
     rw (p.1, p.2)
     (record {
       value =
-          events_fail c.in_err-read_line.field-0.0 (map action_of c.loop-rest.events.items)
+          events_fail c.in_err-read_line.field-0.0 c.args.document (map action_of c.loop-rest.events.items)
           c.loop-rest.line c.next_line.result.0.now (lines_of c.next_line.result.1.now)
-          (lines_of c.loop-rest.rest.now) (events_reading c.args.first (lines_of c.args.bytes.now))
+          (lines_of c.loop-rest.rest.now) (events_reading c.args.document c.args.first (lines_of c.args.bytes.now))
           c.next_line.ensures.lines c.loop-rest.invariant.1 c.in_err-read_line.ensures.value;
     })
 
@@ -26,9 +26,9 @@ loop-rest-preserved c =
     let front = map action_of c.loop-rest.events.items in
     let lines = lines_of c.next_line.result.1.now in (
       omega arith,
-      ap (λ so_far. with_front so_far (events_reading (c.loop-rest.line + 1) lines)) added.2
-          ∙ goes_on front c.loop-rest.line c.next_line.result.0.now lines added.0 added.1
-          ∙ ap (λ ls. with_front front (events_reading c.loop-rest.line ls))
+      ap (λ so_far. with_front so_far (events_reading c.args.document (c.loop-rest.line + 1) lines)) added.2
+          ∙ goes_on c.args.document front c.loop-rest.line c.next_line.result.0.now lines added.0 added.1
+          ∙ ap (λ ls. with_front front (events_reading c.args.document c.loop-rest.line ls))
           (sym c.next_line.ensures.lines) ∙ c.loop-rest.invariant.1,
     )
 
@@ -38,8 +38,8 @@ returns c =
     record {
       value =
           sym c.loop-rest.invariant.1
-          ∙ ap (λ ls. with_front front (events_reading c.loop-rest.line ls))
+          ∙ ap (λ ls. with_front front (events_reading c.args.document c.loop-rest.line ls))
           (lines_of-empty c.loop-rest.rest.now
           (eqb-true (length c.loop-rest.rest.now) 0
-          (sym c.is_empty.ensures ∙ c.loop-rest-test.false))) ∙ ends front c.loop-rest.line;
+          (sym c.is_empty.ensures ∙ c.loop-rest-test.false))) ∙ ends c.args.document front c.loop-rest.line;
     }

@@ -10,7 +10,7 @@ pub returns-then-is_passed_over : goal.returns-then-is_passed_over
 returns-then-is_passed_over c = record {
   value = (
     None,
-    passed_event c.args.line c.args.text.now
+    passed_event c.args.document c.args.line c.args.text.now
         (sym c.is_passed_over.ensures.value ∙ c.if-is_passed_over.true),
     sym (append-nil _),
   );
@@ -22,7 +22,7 @@ returns-in_err-event c =
     rw (p.1, p.2)
     (record {
       value =
-          event_fails c.in_err-event.field-0.0 c.args.line c.args.text.now
+          event_fails c.in_err-event.field-0.0 c.args.document c.args.line c.args.text.now
           (sym c.is_passed_over.ensures.value ∙ c.if-is_passed_over.false)
           c.in_err-event.ensures.value;
     })
@@ -31,7 +31,7 @@ pub returns : goal.returns
 returns c = record {
   value = (
     Some (action_of c.in_ok-event.event),
-    some_event c.args.line c.args.text.now (action_of c.in_ok-event.event)
+    some_event c.args.document c.args.line c.args.text.now (action_of c.in_ok-event.event)
         (sym c.is_passed_over.ensures.value ∙ c.if-is_passed_over.false)
         c.in_ok-event.ensures.value,
     ap (map action_of) c.in_ok-push.ensures.items

@@ -1,26 +1,37 @@
-use Rattle.std.proofs.Common.{◌≡◌, ℕ, List, Option, Some, None, Ok, refl, sym, ap, ◌∙◌}
-use Rattle.omci_types.specs.declared.Frame.{Frame}
-use Rattle.frame_spec.specs.declared.FrameFault.{FrameFault}
-use Rattle.frame_spec.specs.Baseline.{fault_of, answer_of, decoded}
+use Rattle.std.proofs.Common.{◌≡◌, ℕ, List, true, false, Option, Some, None, Ok, Err}
+use Rattle.std.proofs.Common.{sym, ap, ◌∙◌, refl}
+use Rattle.std.specs.Prelude.{is_some}
+use Rattle.extended_spec.specs.declared.AnyFault.{AnyFault}
+use Rattle.extended_spec.specs.Frames.{any_fault_of}
 use Rattle.script_spec.specs.Reading.{◌>>=◌, noise_with}
 use Rattle.replay_script.proofs.words.noise_of.Goals as goal
 
--- bytes that decode have no fault
-no_fault : (bytes : List ℕ) (frame : Frame) → decoded bytes ≡ Ok frame → fault_of bytes ≡ None
-unfolding decoded answer_of
-no_fault bytes frame h = by_fault (fault_of bytes) h
-  where
-    by_fault : (found : Option FrameFault) → answer_of found bytes ≡ Ok frame → found ≡ None
-    by_fault None h = refl
-    by_fault (Some fault) h = cc
+noise_there : (found : Option AnyFault) (bytes : List ℕ) → is_some found ≡ true
+    → noise_with found bytes ≡ Ok bytes
+noise_there (Some fault) bytes h = refl
+noise_there None bytes h = cc
 
-pub returns-in-Ok : goal.returns-in-Ok
-returns-in-Ok c =
-    let faultless : fault_of c.in_ok-bytes.bytes ≡ None =
-    ap fault_of (sym c.bytes-2.ensures.value)
-    ∙ no_fault c.bytes-2.result.now c.in-Ok.field-0 (sym c.in-Ok.ensures.value) in
+noise_missing : (found : Option AnyFault) (bytes : List ℕ) → is_some found ≡ false
+    → noise_with found bytes ≡ Err 5
+noise_missing (Some fault) bytes h = cc
+noise_missing None bytes h = refl
+
+pub returns-then-is_noise : goal.returns-then-is_noise
+returns-then-is_noise c =
+    let same = ap (λ bs. is_some (any_fault_of bs)) (sym c.bytes-2.ensures.value) in
     record {
       value =
-          ap (λ r. r >>= λ bytes. noise_with (fault_of bytes) bytes) c.in_ok-bytes.ensures.value
-          ∙ ap (λ found. noise_with found c.in_ok-bytes.bytes) faultless;
+          ap (λ r. r >>= λ bytes. noise_with (any_fault_of bytes) bytes) c.in_ok-bytes.ensures.value
+          ∙ noise_there (any_fault_of c.in_ok-bytes.bytes) c.in_ok-bytes.bytes
+          (same ∙ sym c.is_noise.ensures.value ∙ c.if-is_noise.true);
+    }
+
+pub returns-else-is_noise : goal.returns-else-is_noise
+returns-else-is_noise c =
+    let same = ap (λ bs. is_some (any_fault_of bs)) (sym c.bytes-2.ensures.value) in
+    record {
+      value =
+          ap (λ r. r >>= λ bytes. noise_with (any_fault_of bytes) bytes) c.in_ok-bytes.ensures.value
+          ∙ noise_missing (any_fault_of c.in_ok-bytes.bytes) c.in_ok-bytes.bytes
+          (same ∙ sym c.is_noise.ensures.value ∙ c.if-is_noise.false);
     }

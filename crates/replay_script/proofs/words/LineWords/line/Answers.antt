@@ -1,35 +1,29 @@
--- The kinds of line whose names have six letters or more.
-use Rattle.std.proofs.Common.{refl, rules}
-use Rattle.std.specs.Prelude.{codes}
-use Rattle.std.proofs.lemmas.Slice.Eq.{text_from_reads}
-use Rattle.script_spec.specs.declared.Line.TheVariants.{Create, Delete, Resync, Deliver}
-use Rattle.replay_script.proofs.Names.{line_by_word}
+use Rattle.std.proofs.Common.{sym, ◌∙◌}
+use Rattle.std.proofs.lemmas.Result.{err_from_is_err_and}
+use Rattle.script_spec.specs.Reading.{line_named}
+use Rattle.replay_script.proofs.Names.{known_line, unknown_line, unnamed_line}
 use Rattle.replay_script.proofs.words.LineWords.line.Goals as goal
 
-pub returns-in-create : goal.returns-in-create
-returns-in-create c = record {
+pub returns-in_err-line : goal.returns-in_err-line
+returns-in_err-line c =
+    let p = err_from_is_err_and c.from_residual.result c.from_residual.ensures.1 in
+    rw (p.1, p.2)
+    (record {
+      value =
+          unnamed_line c.in_err-line.field-0.0 c.args.document (line_named c.args.self.now)
+          c.in_err-line.ensures.value;
+    })
+
+pub returns-then-has : goal.returns-then-has
+returns-then-has c = record {
   value =
-      line_by_word Create (codes "create") refl _ _ _ c.in_ok-word.ensures.value
-      (text_from_reads _ (codes "create") (search rules) (search rules));
+      known_line c.args.document (line_named c.args.self.now) _ c.in_ok-line.ensures.value
+      (sym c.has.ensures.value ∙ c.if-has.true);
 }
 
-pub returns-in-delete : goal.returns-in-delete
-returns-in-delete c = record {
+pub returns-else-has : goal.returns-else-has
+returns-else-has c = record {
   value =
-      line_by_word Delete (codes "delete") refl _ _ _ c.in_ok-word.ensures.value
-      (text_from_reads _ (codes "delete") (search rules) (search rules));
-}
-
-pub returns-in-resync : goal.returns-in-resync
-returns-in-resync c = record {
-  value =
-      line_by_word Resync (codes "resync") refl _ _ _ c.in_ok-word.ensures.value
-      (text_from_reads _ (codes "resync") (search rules) (search rules));
-}
-
-pub returns-in-deliver : goal.returns-in-deliver
-returns-in-deliver c = record {
-  value =
-      line_by_word Deliver (codes "deliver") refl _ _ _ c.in_ok-word.ensures.value
-      (text_from_reads _ (codes "deliver") (search rules) (search rules));
+      unknown_line c.args.document (line_named c.args.self.now) _ c.in_ok-line.ensures.value
+      (sym c.has.ensures.value ∙ c.if-has.false);
 }

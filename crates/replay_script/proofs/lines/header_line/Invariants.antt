@@ -1,12 +1,11 @@
 use Rattle.std.proofs.Common.{◌≡◌, ◌+◌, ◌≤◌, length}
-use Rattle.script_spec.specs.Text.{lines_of}
-use Rattle.script_spec.specs.Reading.{script_reading}
-use Rattle.replay_script.proofs.reading.script_of.Given as goal
+use Rattle.script_spec.specs.Text.{lines_of, opening}
+use Rattle.replay_script.proofs.lines.header_line.Given as goal
 
 abbrev pub invariant-loop-rest : goal.invariant-loop-rest
 invariant-loop-rest l =
     (l.line + length l.rest ≤ 1 + length l.fn.bytes)
-    × (script_reading l.line (lines_of l.rest) ≡ script_reading 1 (lines_of l.fn.bytes))
+    × (opening l.line (lines_of l.rest) ≡ opening 1 (lines_of l.fn.bytes))
 
 abbrev pub decreases-loop-rest : goal.decreases-loop-rest
 decreases-loop-rest l = length l.rest
