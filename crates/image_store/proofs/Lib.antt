@@ -1,0 +1,5 @@
+pub mod Carrying
+pub mod Changing
+pub mod Trapping
+pub mod Running
+pub mod Starting

@@ -1,0 +1,4 @@
+pub mod Papers
+pub mod Steps
+pub mod Boots
+pub mod Tests

@@ -1,0 +1,3 @@
+pub mod Deeds
+pub mod Explained
+pub mod Worked

@@ -1,0 +1,4 @@
+pub mod Deeds
+pub mod Effects
+pub mod History
+pub mod State
