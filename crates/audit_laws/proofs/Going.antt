@@ -3,11 +3,11 @@ use Rattle.std.proofs.Common.{◌≡◌, ℕ, ◌<◌, Bool, true, false, List, 
 use Rattle.std.proofs.lemmas.Option.{same_Some}
 use Rattle.std.specs.List.{flat_map}
 use Rattle.message_spec.specs.declared.Request.TheVariants as request
-use Rattle.lane_spec.specs.Command.{sync_entity, job_command}
+use Rattle.lane_spec.specs.Command.{Command, sync_entity, job_command}
 use Rattle.lane_spec.specs.Lane.{with_command}
-use Rattle.upload_spec.specs.Pieces.{Copy}
-use Rattle.manager_spec.specs.Manager.{Stage, Probing, Asking, Gathering, AskingAlarms, GatheringRows, Manager, Outcome, Sending, and_then}
+use Rattle.manager_spec.specs.Manager.{Stage, Probing, Asking, Gathering, AskingAlarms, GatheringRows, StartingImage, SendingImage, EndingImage, DelayingEnd, Manager, Outcome, Sending, and_then}
 use Rattle.manager_spec.specs.Resync.{with_job}
+use Rattle.manager_spec.specs.Upgrade.{image_window, end_image_command}
 use Rattle.manager_spec.specs.Jobs.{is_free, wish_in, wish_of, send_wish, job_goes_on}
 use Rattle.unit_spec.specs.Onu.{Onu}
 use Rattle.history_spec.specs.History.{WasCarried, AuditedRight}
@@ -28,6 +28,10 @@ Ready a (Gathering expected next copy) = Unit {0}
 Ready a AskingAlarms = AtStage a AskingAlarms
 Ready a (GatheringRows expected next) =
     AtStage a (GatheringRows expected next) ⊎ (IsFree a.low × GathersRows a expected next)
+Ready a (StartingImage order asked image) = Unit {0}
+Ready a (SendingImage order outgoing resent) = Unit {0}
+Ready a (EndingImage order image busy) = Unit {0}
+Ready a (DelayingEnd order image busy) = Unit {0}
 
 abbrev pub JobReady : ℕ → Option Onu → Manager → Told → Type 0
 JobReady lives unit m t = (s : Stage) → m.job ≡ Some s → Ready (state_of lives unit m t) s
@@ -38,6 +42,10 @@ ready_of a Asking h = tt
 ready_of a (Gathering expected next copy) h = tt
 ready_of a AskingAlarms h = h
 ready_of a (GatheringRows expected next) h = inl h
+ready_of a (StartingImage order asked image) h = tt
+ready_of a (SendingImage order outgoing resent) h = tt
+ready_of a (EndingImage order image busy) h = tt
+ready_of a (DelayingEnd order image busy) h = tt
 
 pub other_ready : (s : Stage) (a : State) → is_audit s ≡ false → Ready a s
 other_ready (Probing high low) a e = tt
@@ -45,8 +53,24 @@ other_ready Asking a e = tt
 other_ready (Gathering expected next copy) a e = tt
 other_ready AskingAlarms a e = absurd (cc)
 other_ready (GatheringRows expected next) a e = absurd (cc)
+other_ready (StartingImage order asked image) a e = tt
+other_ready (SendingImage order outgoing resent) a e = tt
+other_ready (EndingImage order image busy) a e = tt
+other_ready (DelayingEnd order image busy) a e = tt
 
 -- ---- the step
+
+-- another job sends what it wants
+pub asks_other : (m : Manager) (lives : ℕ) (unit : Option Onu) (t : Told) → AuditedRight t.history
+    → (b : Bool) (s : Stage) (c : Command) → is_audit s ≡ false → m.job ≡ Some s
+    → Goes (send_wish b (Some (record { command = c; asks = false; stage = s })) m) lives unit t
+asks_other m lives unit t right false s c o j =
+    goes_nothing m lives unit t (job_other lives unit m t s j o) right
+asks_other m lives unit t right true s c o j =
+    let n : Manager = with_job (Some s) m in
+    goes_low false c n lives unit t
+    (job_other lives unit (record n { low = with_command c n.low }) (drawn_low false t) s refl o)
+    right
 
 module _ (m : Manager) (lives : ℕ) (unit : Option Onu) (t : Told) (known : (life command : ℕ) → WasCarried life command t.history → command < t.drawn) (right : AuditedRight t.history) where
   -- another job asks for what it wants
@@ -60,19 +84,6 @@ module _ (m : Manager) (lives : ℕ) (unit : Option Onu) (t : Told) (known : (li
       goes_low true c n lives unit t
       (job_other lives unit (record n { low = with_command c n.low }) (drawn_low true t) Asking refl
       refl) right
-
-  asks_piece : (b : Bool) (expected next : ℕ) (copy : Copy) → is_free m.low ≡ b
-      → m.job ≡ Some (Gathering expected next copy)
-      → Goes (send_wish b (wish_of (Gathering expected next copy)) m) lives unit t
-  asks_piece false expected next copy e j =
-      goes_nothing m lives unit t
-      (job_other lives unit m t (Gathering expected next copy) j refl) right
-  asks_piece true expected next copy e j =
-      let c = job_command sync_entity (request.UploadNext next) in
-      let n : Manager = with_job (Some (Gathering expected next copy)) m in
-      goes_low false c n lives unit t
-      (job_other lives unit (record n { low = with_command c n.low }) (drawn_low false t)
-      (Gathering expected next copy) refl refl) right
 
   job_at : (s : Stage) → m.job ≡ Some s → AtStage (state_of lives unit m t) s → JobOk lives unit m t
   job_at s e h x f = subst (AtStage (state_of lives unit m t)) (same_Some s x (sym e ∙ f)) h
@@ -139,11 +150,23 @@ module _ (m : Manager) (lives : ℕ) (unit : Option Onu) (t : Told) (known : (li
   goes_by (Some Asking) e r =
       goes_nothing m lives unit t (job_other lives unit m t Asking e refl) right
   goes_by (Some (Gathering expected next copy)) e r =
-      asks_piece (is_free m.low) expected next copy refl e
+      asks_other m lives unit t right (is_free m.low) (Gathering expected next copy)
+      (job_command sync_entity (request.UploadNext next)) refl e
   goes_by (Some AskingAlarms) e r =
       goes_nothing m lives unit t (job_at AskingAlarms e (r AskingAlarms refl)) right
   goes_by (Some (GatheringRows expected next)) e r =
       asks_row expected next e (r (GatheringRows expected next) refl)
+  goes_by (Some (StartingImage order asked image)) e r =
+      goes_nothing m lives unit t (job_other lives unit m t (StartingImage order asked image) e refl)
+      right
+  goes_by (Some (SendingImage order outgoing resent)) e r =
+      asks_other m lives unit t right (is_free m.low) (SendingImage order outgoing resent) (image_window order outgoing)
+      refl e
+  goes_by (Some (EndingImage order image busy)) e r =
+      asks_other m lives unit t right (is_free m.low) (EndingImage order image busy) (end_image_command order image) refl e
+  goes_by (Some (DelayingEnd order image busy)) e r =
+      goes_nothing m lives unit t (job_other lives unit m t (DelayingEnd order image busy) e refl)
+      right
 
   pub goes_on : JobReady lives unit m t → Goes (job_goes_on m) lives unit t
   unfolding job_goes_on

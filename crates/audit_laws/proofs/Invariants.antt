@@ -1,6 +1,7 @@
 -- What holds of both ends and of what is told of them while an audit runs.
-use Rattle.std.proofs.Common.{◌≡◌, ◌≢◌, ℕ, ◌<◌, ◌≤◌, ◌^◌, Bool, true, false, List, [], ◌∷◌, length, take, replicate, Option, Some, None, ◌⊎◌, inl, inr, sym, ap, subst, ◌∙◌, arith}
+use Rattle.std.proofs.Common.{◌≡◌, ◌≢◌, ℕ, ◌<◌, ◌≤◌, ◌^◌, Bool, true, false, List, [], ◌∷◌, ◌++◌, map, length, take, replicate, Option, Some, None, ◌⊎◌, inl, inr, refl, sym, ap, subst, ◌∙◌, arith}
 use Rattle.std.proofs.lemmas.Option.{same_Some}
+use Rattle.std.specs.List.{flat_map}
 use Rattle.omci_types.specs.declared.Frame.{Frame}
 use Rattle.frame_spec.specs.Baseline.{spelling}
 use Rattle.message_spec.specs.declared.Request.TheVariants as request
@@ -9,10 +10,16 @@ use Rattle.alarm_spec.specs.Alarms.{Alarm, Alarms, after, row_at, IsWhole}
 use Rattle.alarm_spec.specs.Table.{Table}
 use Rattle.lane_spec.specs.Command.{sync_entity, job_command}
 use Rattle.lane_spec.specs.Lane.{Lane, Waiting}
-use Rattle.manager_spec.specs.Manager.{Stage, Probing, Asking, Gathering, AskingAlarms, GatheringRows, Manager}
+use Rattle.store_spec.specs.History.{StoreEntry}
+use Rattle.manager_spec.specs.declared.Report.{Report}
+use Rattle.manager_spec.specs.declared.Report.TheVariants as report
+use Rattle.manager_spec.specs.Manager.{Stage, Probing, Asking, Gathering, AskingAlarms, GatheringRows, StartingImage, SendingImage, EndingImage, DelayingEnd, Manager}
 use Rattle.unit_spec.specs.Onu.{Onu, AlarmSnapshot, response_frame}
-use Rattle.history_spec.specs.History.{Entry, CarriedOut, TookReply, Remarked, TookSnapshot, Synced, TookAlarms, Audited, WasCarried, LastReply, LastAlarms, AuditedRight}
-use Rattle.world_spec.specs.History.{Told}
+use Rattle.history_spec.specs.History.{Entry, CarriedOut, TookReply, Remarked, TookSnapshot, Synced, TookAlarms, Audited, Stored, Downloaded, WasCarried, LastReply, LastAlarms, AuditedRight}
+use Rattle.world_spec.specs.Happenings.{ImageStored}
+use Rattle.world_spec.specs.Ends.{image_told, download_told}
+use Rattle.world_spec.specs.History.{Told, with_entry, tell_all}
+use Rattle.resync_laws.proofs.Telling.{tell_append}
 use Rattle.audit_laws.proofs.Known.{UnitOk}
 
 -- ---- histories
@@ -35,6 +42,9 @@ same_alarms command a b (Remarked (TookAlarms life c alarms) ∷ older) (inr h) 
     same_alarms command a b older h.1 k.1
 same_alarms command a b (Remarked (Audited c table notices) ∷ older) h k =
     same_alarms command a b older h k
+same_alarms command a b (Remarked (Stored entry) ∷ older) h k = same_alarms command a b older h k
+same_alarms command a b (Remarked (Downloaded slot image) ∷ older) h k =
+    same_alarms command a b older h k
 
 -- and notices make of them what they make of them
 pub with_notices : (command : ℕ) (alarms : Alarms) (notices : List Alarm) (history : List Entry)
@@ -54,6 +64,10 @@ with_notices command alarms notices (Remarked (TookAlarms life c taken) ∷ olde
 with_notices command alarms notices (Remarked (TookAlarms life c taken) ∷ older) (inr h) =
     inr (h.0, with_notices command alarms notices older h.1)
 with_notices command alarms notices (Remarked (Audited c table waited) ∷ older) h =
+    with_notices command alarms notices older h
+with_notices command alarms notices (Remarked (Stored entry) ∷ older) h =
+    with_notices command alarms notices older h
+with_notices command alarms notices (Remarked (Downloaded slot image) ∷ older) h =
     with_notices command alarms notices older h
 
 -- ---- an audit that runs
@@ -147,6 +161,10 @@ AtStage a (Gathering expected next copy) = Unit {0}
 AtStage a AskingAlarms = AsksAlarms a
 AtStage a (GatheringRows expected next) =
     (g : GathersRows a expected next) × AsksRow a g.alarms next
+AtStage a (StartingImage order asked image) = Unit {0}
+AtStage a (SendingImage order outgoing resent) = Unit {0}
+AtStage a (EndingImage order image busy) = Unit {0}
+AtStage a (DelayingEnd order image busy) = Unit {0}
 
 abbrev pub is_audit : Stage → Bool
 is_audit (Probing high low) = false
@@ -154,6 +172,10 @@ is_audit Asking = false
 is_audit (Gathering expected next copy) = false
 is_audit AskingAlarms = true
 is_audit (GatheringRows expected next) = true
+is_audit (StartingImage order asked image) = false
+is_audit (SendingImage order outgoing resent) = false
+is_audit (EndingImage order image busy) = false
+is_audit (DelayingEnd order image busy) = false
 
 -- another job has nothing to keep
 pub other_stage : (s : Stage) (a : State) → is_audit s ≡ false → AtStage a s
@@ -162,6 +184,10 @@ other_stage Asking a e = tt
 other_stage (Gathering expected next copy) a e = tt
 other_stage AskingAlarms a e = absurd (cc)
 other_stage (GatheringRows expected next) a e = absurd (cc)
+other_stage (StartingImage order asked image) a e = tt
+other_stage (SendingImage order outgoing resent) a e = tt
+other_stage (EndingImage order image busy) a e = tt
+other_stage (DelayingEnd order image busy) a e = tt
 
 abbrev pub JobOk : ℕ → Option Onu → Manager → Told → Type 0
 JobOk lives unit m t = (s : Stage) → m.job ≡ Some s → AtStage (state_of lives unit m t) s
@@ -277,6 +303,10 @@ stage_kept a b k (Gathering expected next copy) h = tt
 stage_kept a b k AskingAlarms h = asks_kept a b k h
 stage_kept a b k (GatheringRows expected next) h =
     (gathers_kept a b expected next k h.0, row_kept a b h.0.alarms next k h.1)
+stage_kept a b k (StartingImage order asked image) h = tt
+stage_kept a b k (SendingImage order outgoing resent) h = tt
+stage_kept a b k (EndingImage order image busy) h = tt
+stage_kept a b k (DelayingEnd order image busy) h = tt
 
 -- ---- all of it
 
@@ -284,3 +314,102 @@ pub record Good (lives : ℕ) (unit : Option Onu) (manager : Option Manager) (t 
   pub job : (m : Manager) → manager ≡ Some m → JobOk lives unit m t
   pub unit_ok : (u : Onu) → unit ≡ Some u → UnitOk u
   pub right : AuditedRight t.history
+
+-- ---- an entry more
+
+-- an entry of the history that says nothing of requests and alarms
+pub record Passes (entry : Entry) : Type 0 where
+  pub was : (life command : ℕ) (history : List Entry) → WasCarried life command (entry ∷ history)
+      → WasCarried life command history
+  pub reply : (command : ℕ) (r : List ℕ) (history : List Entry)
+      → LastReply command r (entry ∷ history) → LastReply command r history
+  pub last : (command : ℕ) (alarms : Alarms) (history : List Entry)
+      → LastAlarms command [] alarms history → LastAlarms command [] alarms (entry ∷ history)
+  pub right : (history : List Entry) → AuditedRight history → AuditedRight (entry ∷ history)
+
+stored_passes : (entry : StoreEntry) → Passes (Remarked (Stored entry))
+stored_passes entry = record {
+  was = λ life command history h. h;
+  reply = λ command r history h. h;
+  last = λ command alarms history h. h;
+  right = λ history h. h;
+}
+
+downloaded_passes : (slot : ℕ) (image : List ℕ) → Passes (Remarked (Downloaded slot image))
+downloaded_passes slot image = record {
+  was = λ life command history h. h;
+  reply = λ command r history h. h;
+  last = λ command alarms history h. h;
+  right = λ history h. h;
+}
+
+entry_keeps : (entry : Entry) → Passes entry → (lives : ℕ) (unit : Option Onu) (m : Manager)
+    (t : Told) → Keeps (state_of lives unit m t) (state_of lives unit m (with_entry entry t))
+entry_keeps entry p lives unit m t = record {
+  tlow = refl;
+  asking = refl;
+  proved = λ e. e;
+  waits = λ w e. (w, e, refl);
+  drawn = omega arith;
+  high = λ w e. inr (w, e, refl);
+  gathering = λ rows e. e;
+  waiting = λ rows e apart f. f;
+  replied = λ r last. p.reply t.low r t.history last;
+  carried = λ was u s on has. p.was lives t.low t.history was;
+  put_by = λ u s on has. (u, s, on, has, refl);
+  last = λ command alarms h. p.last command alarms t.history h;
+}
+
+good_passes : (entry : Entry) → Passes entry → (lives : ℕ) (unit : Option Onu)
+    (manager : Option Manager) (t : Told) → Good lives unit manager t
+    → Good lives unit manager (with_entry entry t)
+good_passes entry p lives unit manager t h = record {
+  job = λ m e s g. stage_kept _ _ (entry_keeps entry p lives unit m t) s (h.job m e s g);
+  unit_ok = h.unit_ok;
+  right = p.right t.history h.right;
+}
+
+-- what the store has for the history
+pub entries_good : (entries : List StoreEntry) (lives : ℕ) (unit : Option Onu)
+    (manager : Option Manager) (t : Told) → Good lives unit manager t
+    → Good lives unit manager (tell_all (map ImageStored entries) t)
+entries_good [] lives unit manager t h = h
+entries_good (entry ∷ rest) lives unit manager t h =
+    entries_good rest lives unit manager (with_entry (Remarked (Stored entry)) t)
+    (good_passes (Remarked (Stored entry)) (stored_passes entry) lives unit manager t h)
+
+-- ---- downloads that have ended
+
+-- the job of a manager that is on, and the history
+pub record JobRight (lives : ℕ) (unit : Option Onu) (m : Manager) (t : Told) : Type 0 where
+  pub job : JobOk lives unit m t
+  pub right : AuditedRight t.history
+
+told_right : (before : Option Stage) (slot : ℕ) (lives : ℕ) (unit : Option Onu) (m : Manager)
+    (t : Told) → JobRight lives unit m t
+    → JobRight lives unit m (tell_all (image_told before slot) t)
+told_right (Some (EndingImage order image busy)) slot lives unit m t h =
+    let p = downloaded_passes slot image in
+    record {
+      job = λ s g.
+          stage_kept _ _ (entry_keeps (Remarked (Downloaded slot image)) p lives unit m t) s (h.job s g);
+      right = h.right;
+    }
+told_right None slot lives unit m t h = h
+told_right (Some _) slot lives unit m t h = h
+
+one_right : (before : Option Stage) (r : Report) (lives : ℕ) (unit : Option Onu) (m : Manager)
+    (t : Told) → JobRight lives unit m t
+    → JobRight lives unit m (tell_all (download_told before r) t)
+one_right before (report.ImageDone slot) lives unit m t h = told_right before slot lives unit m t h
+one_right before _ lives unit m t h = h
+
+pub downloads_right : (before : Option Stage) (reports : List Report) (lives : ℕ)
+    (unit : Option Onu) (m : Manager) (t : Told) → JobRight lives unit m t
+    → JobRight lives unit m (tell_all (flat_map (download_told before) reports) t)
+downloads_right before [] lives unit m t h = h
+downloads_right before (r ∷ rest) lives unit m t h =
+    subst (λ u. JobRight lives unit m u)
+    (sym (tell_append (download_told before r) (flat_map (download_told before) rest) t))
+    (downloads_right before rest lives unit m (tell_all (download_told before r) t)
+    (one_right before r lives unit m t h))

@@ -19,15 +19,23 @@ use Rattle.class_spec.specs.Classes.{class_row, class_table}
 use Rattle.mib_spec.specs.declared.TheConstants.{MOST_ENTITIES}
 use Rattle.mib_spec.specs.declared.Sensed.{Sensed}
 use Rattle.mib_spec.specs.declared.Sensed.TheVariants as sensed
-use Rattle.mib_spec.specs.Database.{Database, Managed, Values, entity, entity_cmp, managed_of, is_held, with_entity, without_entity, with_values, values_of, with_value, counter, with_counter, bump, with_counter_grown, image_values, first_with, first}
+use Rattle.mib_spec.specs.Database.{Database, Managed, Values, entity, entity_cmp, managed_of, is_held, with_entity, without_entity, with_values, values_of, with_value, counter, with_counter, bump, with_counter_grown, image_entity, image_values, with_software, first_with, first}
 use Rattle.mib_spec.specs.Requests.{first_code, unless_refused, is_class, is_unit_made, new_entity, create_code, create_outcome, delete_code, delete_outcome, set_values, set_code, is_counter_set, set_effect, set_outcome, reset_code, reset, may_sense, is_sensed, sense_outcome}
 use Rattle.mib_laws.proofs.Others.{entity_total, entity_exact}
 use Rattle.alarm_spec.specs.declared.TheConstants.{BITMAP_BYTES}
 use Rattle.alarm_spec.specs.Alarms.{Alarms, is_clear, with_alarm, without_alarm, unless_clear, with_bitmap, ComesBefore, IsAscending, IsWhole}
 use Rattle.alarm_spec.specs.Log.{Log, unless_same, is_same, change}
 use Rattle.alarm_laws.proofs.Kept.{whole_after}
-use Rattle.unit_spec.specs.Onu.{Onu, answer, onu_started, onu_ticked}
-use Rattle.unit_spec.specs.Noticing.{sensed_as, onu_sensed, has_alarms, may_alarm, told_by, alarm_if, onu_alarmed}
+use Rattle.omci_types.specs.declared.Boot.{Boot}
+use Rattle.slot_spec.specs.Slots.{SlotPair}
+use Rattle.store_spec.specs.declared.Handled.{Handled}
+use Rattle.store_spec.specs.declared.Handled.TheVariants as handled
+use Rattle.store_spec.specs.State.{store_started, software_of}
+use Rattle.store_spec.specs.Deeds.{Deed}
+use Rattle.store_spec.specs.Effects.{store_after, handled_by}
+use Rattle.unit_spec.specs.Images.{counted_if, database_handled}
+use Rattle.unit_spec.specs.Onu.{Onu, image_deed, image_handled, answer, onu_started, onu_ticked}
+use Rattle.unit_spec.specs.Noticing.{Noticing, notice_unless_leaving, sensed_as, onu_sensed, has_alarms, may_alarm, told_by, alarm_if, onu_alarmed}
 
 -- ---- entities of a list
 
@@ -340,7 +348,35 @@ few_alarms u h =
 ok_with : (db : Database) (u : Onu) → UnitOk u → AreFixed db → UnitOk (record u { database = db })
 ok_with db u h f = record { whole = h.whole; known_alarms = h.known_alarms; fixed = f }
 
-pub answer_ok : (f : Frame) (r : Request) (u : Onu) → UnitOk u → UnitOk (answer f r u).unit
+fixed_software : (m : Software) (db : Database) → AreFixed db → AreFixed (with_software m db)
+unfolding with_software
+fixed_software m db f =
+    fixed_values (image_entity 1) (image_values 1 m)
+    (with_values (image_entity 0) (image_values 0 m) db)
+    (fixed_values (image_entity 0) (image_values 0 m) db f)
+
+fixed_counted : (grows : Bool) (m : Software) (db : Database) → AreFixed db
+    → AreFixed (counted_if grows m db)
+fixed_counted true m db f = fixed_grown (with_software m db) (fixed_software m db f)
+fixed_counted false m db f = f
+
+fixed_handled : (h : Handled) (m : Software) (db : Database) → AreFixed db
+    → AreFixed (database_handled h m db)
+fixed_handled (handled.Answered code grows leaves) m db f = fixed_counted grows m db f
+fixed_handled handled.Held m db f = f
+fixed_handled handled.Dropped m db f = f
+
+-- a deed of the store leaves the alarms alone
+pub deed_ok : (fails : Bool) (d : Deed) (slot : ℕ) (u : Onu) → UnitOk u
+    → UnitOk (image_handled fails d slot u)
+deed_ok fails d slot u h = record {
+  whole = h.whole;
+  known_alarms = h.known_alarms;
+  fixed = fixed_handled (handled_by fails d) (software_of (store_after fails d u.store)) u.database
+      h.fixed;
+}
+
+pub answer_ok : (f : Frame) (r : Request) (u : Onu) → UnitOk u → UnitOk (answer false f r u).unit
 unfolding answer
 answer_ok f (request.Create values) u h =
     ok_with _ u h (fixed_create f.entity values u.database h.fixed)
@@ -358,24 +394,38 @@ answer_ok f request.Upload u h =
     record { whole = h.whole; known_alarms = h.known_alarms; fixed = h.fixed }
 answer_ok f (request.UploadNext number) u h =
     record { whole = h.whole; known_alarms = h.known_alarms; fixed = h.fixed }
-answer_ok f (request.Start window size targets target) u h = h
-answer_ok f (request.Section number bytes last) u h = h
-answer_ok f (request.End crc size targets target) u h = h
-answer_ok f (request.Activate flags) u h = h
-answer_ok f request.Commit u h = h
-answer_ok f (request.Reboot flags) u h = h
+answer_ok f (request.Start window size targets target) u h =
+    deed_ok false (image_deed f (request.Start window size targets target) u) f.entity.instance u h
+answer_ok f (request.Section number bytes last) u h =
+    deed_ok false (image_deed f (request.Section number bytes last) u) f.entity.instance u h
+answer_ok f (request.End crc size targets target) u h =
+    deed_ok false (image_deed f (request.End crc size targets target) u) f.entity.instance u h
+answer_ok f (request.Activate flags) u h =
+    deed_ok false (image_deed f (request.Activate flags) u) f.entity.instance u h
+answer_ok f request.Commit u h =
+    deed_ok false (image_deed f request.Commit u) f.entity.instance u h
+answer_ok f (request.Reboot flags) u h =
+    record { whole = h.whole; known_alarms = h.known_alarms; fixed = h.fixed }
 
-pub started_ok : (software : Software) → UnitOk (onu_started software)
+pub started_ok : (boot : Boot) (room : ℕ) (slots : SlotPair) → UnitOk (onu_started boot room slots)
 unfolding onu_started first
-started_ok software = record {
-  whole = record { ascending = tt; raised = tt };
-  known_alarms = tt;
-  fixed = fixed_first (image_values 0 software) (image_values 1 software);
-}
+started_ok boot room slots =
+    let m = software_of (store_started boot slots) in
+    record {
+      whole = record { ascending = tt; raised = tt };
+      known_alarms = tt;
+      fixed = fixed_first (image_values 0 m) (image_values 1 m);
+    }
 
 pub ticked_ok : (u : Onu) → UnitOk u → UnitOk (onu_ticked u)
 unfolding onu_ticked
 ticked_ok u h = record { whole = h.whole; known_alarms = h.known_alarms; fixed = h.fixed }
+
+-- a unit that leaves notices nothing
+unless_ok : (leaving : Option Boot) (n : Noticing) (u : Onu) → UnitOk n.unit → UnitOk u
+    → UnitOk (notice_unless_leaving leaving n u).unit
+unless_ok None n u h k = h
+unless_ok (Some boot) n u h k = k
 
 sensed_by : (o : Sensed) (one : EntityId) (number : ℕ) (value : List ℕ) (db : Database) (u : Onu)
     → AreFixed db → UnitOk u → UnitOk (sensed_as o one number value db u).unit
@@ -388,7 +438,8 @@ pub sensed_ok : (one : EntityId) (number : ℕ) (value : List ℕ) (u : Onu) →
 unfolding onu_sensed
 sensed_ok one number value u h =
     let o = sense_outcome one number value u.database in
-    sensed_by o.0 one number value o.1 u (fixed_sense one number value u.database h.fixed) h
+    unless_ok u.leaving _ u
+    (sensed_by o.0 one number value o.1 u (fixed_sense one number value u.database h.fixed) h) h
 
 told_ok : (o : Option Notice) (one : EntityId) (u : Onu) → UnitOk u → UnitOk (told_by o one u).unit
 told_ok None one u h = h
@@ -417,4 +468,5 @@ alarmed_by true one bitmap u e a h =
 pub alarmed_ok : (one : EntityId) (bitmap : List ℕ) (u : Onu) → IsAlarmed one bitmap → UnitOk u
     → UnitOk (onu_alarmed one bitmap u).unit
 unfolding onu_alarmed
-alarmed_ok one bitmap u a h = alarmed_by (may_alarm one u.database) one bitmap u refl a h
+alarmed_ok one bitmap u a h =
+    unless_ok u.leaving _ u (alarmed_by (may_alarm one u.database) one bitmap u refl a h) h

@@ -1,5 +1,5 @@
 -- Each line of a script keeps all well.
-use Rattle.std.proofs.Common.{◌≡◌, ◌≢◌, ℕ, ◌+◌, Bool, true, false, List, [], ◌∷◌, ◌++◌, Option, Some, None, inr, ◌<◌, refl, sym, ap, subst, ◌∙◌, arith}
+use Rattle.std.proofs.Common.{◌≡◌, ◌≢◌, ℕ, ◌+◌, Bool, true, false, List, [], ◌∷◌, ◌++◌, reverse, Option, Some, None, inr, ◌<◌, refl, sym, ap, subst, ◌∙◌, arith}
 use Rattle.std.proofs.lemmas.Option.{same_Some}
 use Rattle.omci_types.specs.declared.EntityId.{EntityId}
 use Rattle.omci_types.specs.declared.Priority.{Priority}
@@ -17,16 +17,21 @@ use Rattle.link_spec.specs.declared.Direction.TheVariants.{Down, Up}
 use Rattle.link_spec.specs.Link.{Sent, allowed}
 use Rattle.manager_spec.specs.declared.Refusal.{Refusal}
 use Rattle.manager_spec.specs.Manager.{Manager, Outcome, manager_started}
-use Rattle.manager_spec.specs.Submitting.{Submission, unless_refused, probe_refusal, after_probe, submit_refusal, after_submit, check_refusal, after_check, resync_refusal, after_resync, audit_refusal, after_audit}
+use Rattle.manager_spec.specs.Submitting.{Submission, unless_refused, probe_refusal, after_probe, submit_refusal, after_submit, check_refusal, after_check, resync_refusal, after_resync, audit_refusal, after_audit, image_refusal, check_given, after_image}
 use Rattle.manager_spec.specs.Steps.{packet_dropped, for_frame, after_packet, after_tick}
 use Rattle.unit_spec.specs.declared.Noticed.{Noticed}
 use Rattle.unit_spec.specs.declared.Noticed.TheVariants as noticed
-use Rattle.unit_spec.specs.Onu.{Onu, AlarmSnapshot, Reception, onu_started, onu_ticked, alarms_unless_over, alarms_second_older, second_older}
-use Rattle.unit_spec.specs.Noticing.{Noticing, sensed_as, onu_sensed, told_by, may_alarm, alarm_if, onu_alarmed}
+use Rattle.omci_types.specs.declared.Boot.{Boot}
+use Rattle.omci_types.specs.declared.Boot.TheVariants.{PowerUp}
+use Rattle.slot_spec.specs.declared.Pick.{Pick}
+use Rattle.slot_spec.specs.Slots.{SlotPair}
+use Rattle.store_spec.specs.Effects.{entries_before}
+use Rattle.unit_spec.specs.Onu.{Onu, AlarmSnapshot, Reception, onu_started, onu_ticked, packet_deed, alarms_unless_over, alarms_second_older, second_older}
+use Rattle.unit_spec.specs.Noticing.{Noticing, notice_unless_leaving, sensed_as, onu_sensed, told_by, may_alarm, alarm_if, onu_alarmed}
 use Rattle.history_spec.specs.History.{WasCarried}
-use Rattle.world_spec.specs.Happenings.{PacketCame}
-use Rattle.world_spec.specs.Ends.{Ends, Step, factory_software, not_enabled, preceded, manager_did, submission_step, submission, manager_got, manager_ticks, unit_did, unit_got, notice_sent, unit_notices, arrives_at, arrives, noise, unit_ticks, second, cut_unit, cut_manager, start_unit, start_manager}
-use Rattle.world_spec.specs.Nodes.{Nodes, first_nodes, delivery_of, delivery}
+use Rattle.world_spec.specs.Happenings.{PacketCame, PowerCut}
+use Rattle.world_spec.specs.Ends.{Ends, Step, factory_slots, not_enabled, preceded, stage_in, manager_did, submission_step, submission, manager_got, manager_ticks, stored, unit_did, unit_got, notice_sent, unit_notices, arrives_at, arrives, noise, unit_starts, restarts, unit_ticks, second, cut_unit, cut_manager, start_unit, unit_cut_amid, cut_at, cut_in, start_manager}
+use Rattle.world_spec.specs.Nodes.{Nodes, first_nodes, delivery_of, delivery, cut_of, cut_delivery}
 use Rattle.world_spec.specs.History.{Told, first_told, name_at, tell_all}
 use Rattle.resync_laws.proofs.Reading.{noise_read}
 use Rattle.resync_laws.proofs.Unit.{noise_drops}
@@ -34,10 +39,10 @@ use Rattle.resync_laws.proofs.Telling.{tell_append}
 use Rattle.resync_laws.proofs.Invariants.{Good as Kept}
 use Rattle.resync_laws.proofs.Lines.{Fine, Linked, allowed_is}
 use Rattle.audit_laws.proofs.Known.{UnitOk, started_ok, ticked_ok, sensed_ok, IsAlarmed, alarmed_ok}
-use Rattle.audit_laws.proofs.Invariants.{state_of, JobOk, job_none, Keeps, stage_kept, Good}
+use Rattle.audit_laws.proofs.Invariants.{state_of, JobOk, job_none, Keeps, stage_kept, Good, entries_good}
 use Rattle.audit_laws.proofs.Telling.{Did}
 use Rattle.audit_laws.proofs.Taking.{packet_good, drops_on}
-use Rattle.audit_laws.proofs.Turns.{probe_good, check_good, resync_good, audit_good, submit_good, tick_good}
+use Rattle.audit_laws.proofs.Turns.{probe_good, check_good, resync_good, audit_good, image_good, submit_good, tick_good}
 use Rattle.audit_laws.proofs.Serving.{unit_good}
 
 abbrev pub NodesGood : Nodes → Told → Type 0
@@ -62,9 +67,9 @@ did_good o e t ok d =
     let m : Manager = record o.manager { reports = [] } in
     record {
       job = λ x f. subst (λ y. JobOk e.lives e.unit y (tell_all (manager_did o e).happenings t))
-          (same_Some m x f) d.job;
+          (same_Some m x f) (d (stage_in e.manager)).job;
       unit_ok = ok;
-      right = d.right;
+      right = (d (stage_in e.manager)).right;
     }
 
 submitted : (r : Option Refusal) (o : Outcome) (m : Manager) (e : Ends) (t : Told)
@@ -128,6 +133,15 @@ module _ (n : Nodes) (t : Told) (f : Fine n t) (g : NodesGood n t) where
       (λ m e. submitted (audit_refusal m) _ m n.ends t g
       (λ r. audit_good m n.ends.lives n.ends.unit t known (g.job m e) g.right (f.good.reports m e)
       r))
+
+  pub image_line : (slot asked : ℕ) (check : Option ℕ) (image : List ℕ)
+      → StepGood (submission (after_image slot asked check image) n.ends.manager n.ends) t
+  unfolding after_image
+  image_line slot asked check image =
+      asked_good (after_image slot asked check image) n.ends.manager refl
+      (λ m e. submitted (image_refusal m) _ m n.ends t g
+      (λ r. image_good m n.ends.lives n.ends.unit t known (g.job m e) g.right (f.good.reports m e)
+      (record { slot = slot; check = check_given check image }) asked image r))
 
   manager_second : (o : Option Manager) → n.ends.manager ≡ o → StepGood (manager_ticks o n.ends) t
   manager_second None e = g
@@ -198,11 +212,27 @@ older_from (Some y) x e = (y, refl, older_by _ y x e)
 some_ok : (u : Onu) → UnitOk u → (v : Onu) → Some u ≡ Some v → UnitOk v
 some_ok u h v e = subst UnitOk (same_Some u v e) h
 
-unit_second : (o : Option Onu) (e : Ends) (t : Told) → e.unit ≡ o
-    → Good e.lives e.unit e.manager t → StepGood (unit_ticks o e) t
+-- its next life
+pub unit_starts_line : (boot : Boot) (slots : SlotPair) (e : Ends) (t : Told)
+    → Good e.lives e.unit e.manager t → StepGood (unit_starts boot slots e) t
+unfolding onu_started
+unit_starts_line boot slots e t g =
+    let after : Onu = onu_started boot e.room slots in
+    record {
+      job = λ m h s k.
+          stage_kept _ _
+          (unit_anew e.lives (e.lives + 1) e.unit (Some after) m t
+          (λ v x on has.
+          let a = ap (λ (y : Onu). y.alarm_snapshot) (same_Some after v on) in absurd (cc)))
+          s (g.job m h s k);
+      unit_ok = some_ok after (started_ok boot e.room slots);
+      right = g.right;
+    }
+
+unit_older : (u : Onu) (e : Ends) (t : Told) → e.unit ≡ Some u → Good e.lives e.unit e.manager t
+    → StepGood (restarts None u e) t
 unfolding onu_ticked
-unit_second None e t f g = g
-unit_second (Some u) e t f g = record {
+unit_older u e t f g = record {
   job = λ m h s k.
       stage_kept _ _
       (unit_keeps e.lives e.unit (Some (onu_ticked u)) m t
@@ -215,6 +245,15 @@ unit_second (Some u) e t f g = record {
   unit_ok = some_ok (onu_ticked u) (ticked_ok u (g.unit_ok u f));
   right = g.right;
 }
+
+unit_second : (o : Option Onu) (e : Ends) (t : Told) → e.unit ≡ o
+    → Good e.lives e.unit e.manager t → StepGood (unit_ticks o e) t
+unit_second None e t f g = g
+unit_second (Some u) e t f g = go u.leaving
+  where
+    go : (leaving : Option Boot) → StepGood (restarts leaving u e) t
+    go None = unit_older u e t f g
+    go (Some boot) = unit_starts_line boot u.store.slots e t g
 
 pub second_line : (n : Nodes) (t : Told) → Fine n t → NodesGood n t → StepGood (second n.ends) t
 unfolding second
@@ -245,18 +284,8 @@ cut_manager_line (Some m) e t g =
 
 pub start_unit_line : (o : Option Onu) (e : Ends) (t : Told) → Good e.lives e.unit e.manager t
     → StepGood (start_unit o e) t
-unfolding onu_started
 start_unit_line (Some u) e t g = not_enabled_good e t g
-start_unit_line None e t g = record {
-  job = λ m h s k.
-      stage_kept _ _
-      (unit_anew e.lives (e.lives + 1) e.unit (Some (onu_started e.software)) m t
-      (λ v x on has.
-      let a = ap (λ (y : Onu). y.alarm_snapshot) (same_Some (onu_started e.software) v on) in
-      absurd (cc))) s (g.job m h s k);
-  unit_ok = some_ok (onu_started e.software) (started_ok e.software);
-  right = g.right;
-}
+start_unit_line None e t g = unit_starts_line PowerUp e.slots e t g
 
 pub start_manager_line : (low high : ℕ) (o : Option Manager) (e : Ends) (t : Told)
     → Good e.lives e.unit e.manager t → StepGood (start_manager low high o e) t
@@ -294,6 +323,13 @@ noticing_line call (Some u) e t f same ok g =
       right = g.right;
     })
 
+-- a unit that leaves notices nothing
+unless_same : (leaving : Option Boot) (n : Noticing) (u : Onu)
+    → n.unit.alarm_snapshot ≡ u.alarm_snapshot
+    → (notice_unless_leaving leaving n u).unit.alarm_snapshot ≡ u.alarm_snapshot
+unless_same None n u e = e
+unless_same (Some boot) n u e = refl
+
 sensed_same : (o : Sensed) (one : EntityId) (number : ℕ) (value : List ℕ) (db : Database) (u : Onu)
     → (sensed_as o one number value db u).unit.alarm_snapshot ≡ u.alarm_snapshot
 sensed_same sensed.NotAllowed one number value db u = refl
@@ -306,8 +342,8 @@ pub sense_line : (one : EntityId) (number : ℕ) (value : List ℕ) (e : Ends) (
 unfolding onu_sensed
 sense_line one number value e t g =
     noticing_line (onu_sensed one number value) e.unit e t refl
-    (λ u. sensed_same (sense_outcome one number value u.database).0 one number value
-    (sense_outcome one number value u.database).1 u) (sensed_ok one number value) g
+    (λ u. unless_same u.leaving _ u (sensed_same (sense_outcome one number value u.database).0 one
+    number value (sense_outcome one number value u.database).1 u)) (sensed_ok one number value) g
 
 told_same : (o : Option Notice) (one : EntityId) (u : Onu)
     → (told_by o one u).unit.alarm_snapshot ≡ u.alarm_snapshot
@@ -326,7 +362,8 @@ pub alarm_line : (one : EntityId) (bitmap : List ℕ) (e : Ends) (t : Told) → 
 unfolding onu_alarmed
 alarm_line one bitmap e t a g =
     noticing_line (onu_alarmed one bitmap) e.unit e t refl
-    (λ u. alarmed_same (may_alarm one u.database) one bitmap u) (λ u h. alarmed_ok one bitmap u a h) g
+    (λ u. unless_same u.leaving _ u (alarmed_same (may_alarm one u.database) one bitmap u))
+    (λ u h. alarmed_ok one bitmap u a h) g
 
 -- ---- noise
 
@@ -399,13 +436,51 @@ pub delivery_line : (number : ℕ) (n : Nodes) (t : Told) → Fine n t → Nodes
 unfolding delivery
 delivery_line number n t f g k = delivery_by (allowed number n.link) number n t f g k refl
 
+-- the power goes amid it
+came_good : (number : ℕ) (s : Sent) (e : Ends) (t : Told) → Good e.lives e.unit e.manager t
+    → Good e.lives None e.manager (record t { came = name_at number t.names; packet = s.bytes })
+came_good number s e t g = record {
+  job = λ m h x k.
+      stage_kept _ _ (unit_keeps e.lives e.unit None m t (λ v y on has. absurd (cc))) x (g.job m h x k);
+  unit_ok = λ v h. absurd (cc);
+  right = g.right;
+}
+
+unit_cut_line : (call : ℕ) (pick : Pick) (number : ℕ) (s : Sent) (o : Option Onu) (e : Ends) (t : Told)
+    → Good e.lives e.unit e.manager t
+    → StepGood (unit_cut_amid call pick (PacketCame number s ∷ []) s.bytes o e) t
+unit_cut_line call pick number s None e t g = not_enabled_good e t g
+unit_cut_line call pick number s (Some u) e t g =
+    let c : Told = record t { came = name_at number t.names; packet = s.bytes } in
+    let es = entries_before (packet_deed s.bytes u) in
+    subst (λ v. Good e.lives None e.manager v) (sym (tell_append (stored es) (PowerCut ∷ []) c))
+    (entries_good (reverse es) e.lives None e.manager c (came_good number s e t g))
+
+cut_by : (call : ℕ) (pick : Pick) (d : Direction) (number : ℕ) (s : Sent) (e : Ends) (t : Told)
+    → Good e.lives e.unit e.manager t
+    → StepGood (cut_at call pick d (PacketCame number s ∷ []) s.bytes e) t
+cut_by call pick Down number s e t g = unit_cut_line call pick number s e.unit e t g
+cut_by call pick Up number s e t g = not_enabled_good e t g
+
+cut_of_line : (call : ℕ) (pick : Pick) (o : Option Sent) (number : ℕ) (e : Ends) (t : Told)
+    → Good e.lives e.unit e.manager t → StepGood (cut_of call pick o number e) t
+unfolding cut_in
+cut_of_line call pick None number e t g = not_enabled_good e t g
+cut_of_line call pick (Some s) number e t g = cut_by call pick s.direction number s e t g
+
+pub cut_delivery_line : (call : ℕ) (pick : Pick) (number : ℕ) (n : Nodes) (t : Told) → NodesGood n t
+    → StepGood (cut_delivery call pick number n) t
+unfolding cut_delivery
+cut_delivery_line call pick number n t g =
+    cut_of_line call pick (allowed number n.link) number n.ends t g
+
 -- ---- at first
 
 pub first_good : (h : Header) → NodesGood (first_nodes h) first_told
 first_good h = record {
   job = λ m e. job_none 1 _ m first_told
       (ap (λ (x : Manager). x.job) (sym (same_Some (manager_started h.low h.high) m e)));
-  unit_ok = some_ok (onu_started (factory_software h.factory))
-      (started_ok (factory_software h.factory));
+  unit_ok = some_ok (onu_started PowerUp h.room (factory_slots h.factory))
+      (started_ok PowerUp h.room (factory_slots h.factory));
   right = tt;
 }

@@ -1,4 +1,5 @@
 -- What an end reads of an audit's packet that the other made.
+use Rattle.std.proofs.Common.{false}
 use Rattle.std.proofs.Common.{◌≡◌, ℕ, ◌+◌, ◌<◌, ◌^◌, true, List, [], ◌++◌, length, take, drop, replicate, Some, None, Ok, refl, sym, ap, subst, ◌∙◌}
 use Rattle.std.proofs.lemmas.Bool.{false≢true}
 use Rattle.std.proofs.lemmas.List.{take_at, append-nil}
@@ -17,9 +18,10 @@ use Rattle.message_spec.specs.Fields.{put, padding}
 use Rattle.message_spec.specs.Types.{type_numbered, kind_of}
 use Rattle.message_spec.specs.Reading.{plain, message_of}
 use Rattle.manager_spec.specs.Steps.{response_in, response_of}
-use Rattle.unit_spec.specs.Onu.{Onu, Reception, Answer, answer, get_alarms, alarms_next}
+use Rattle.unit_spec.specs.Images.{reboot_code}
+use Rattle.unit_spec.specs.Onu.{Onu, Reception, Answer, image_deed, answer, get_alarms, alarms_next}
 use Rattle.resync_laws.proofs.Reading.{IsReadOf, read_of, message_read, is_plain, plain_asked}
-use Rattle.resync_laws.proofs.Unit.{Carries, same_asked}
+use Rattle.resync_laws.proofs.Unit.{IsQuietNote, quiet_deed, quiet_reboot, Carries, same_asked}
 
 -- ---- responses
 
@@ -98,15 +100,16 @@ carries_row tci entity number bytes u r made small c =
 -- a caller's request leaves alone the alarms that were put by
 pub record IsAside (u : Onu) (a : Answer) : Type 0 where
   pub alarms : a.unit.alarm_snapshot ≡ u.alarm_snapshot
-  pub note : a.note ≡ None
+  pub note : IsQuietNote a.note
 
-plain_aside : (f : Frame) (r : Request) (u : Onu) → is_plain r ≡ true → IsAside u (answer f r u)
+plain_aside : (f : Frame) (r : Request) (u : Onu) → is_plain r ≡ true
+    → IsAside u (answer false f r u)
 unfolding answer
-plain_aside f (request.Create values) u p = record { alarms = refl; note = refl }
-plain_aside f request.Delete u p = record { alarms = refl; note = refl }
-plain_aside f (request.Set mask values) u p = record { alarms = refl; note = refl }
-plain_aside f (request.Get mask) u p = record { alarms = refl; note = refl }
-plain_aside f request.Reset u p = record { alarms = refl; note = refl }
+plain_aside f (request.Create values) u p = record { alarms = refl; note = tt }
+plain_aside f request.Delete u p = record { alarms = refl; note = tt }
+plain_aside f (request.Set mask values) u p = record { alarms = refl; note = tt }
+plain_aside f (request.Get mask) u p = record { alarms = refl; note = tt }
+plain_aside f request.Reset u p = record { alarms = refl; note = tt }
 plain_aside f (request.Alarms mode) u p = absurd (false≢true p)
 plain_aside f (request.AlarmsNext number) u p = absurd (false≢true p)
 plain_aside f request.Upload u p = absurd (false≢true p)
@@ -114,9 +117,12 @@ plain_aside f (request.UploadNext number) u p = absurd (false≢true p)
 plain_aside f (request.Start window size targets target) u p = absurd (false≢true p)
 plain_aside f (request.Section number bytes last) u p = absurd (false≢true p)
 plain_aside f (request.End crc size targets target) u p = absurd (false≢true p)
-plain_aside f (request.Activate flags) u p = absurd (false≢true p)
-plain_aside f request.Commit u p = absurd (false≢true p)
-plain_aside f (request.Reboot flags) u p = absurd (false≢true p)
+plain_aside f (request.Activate flags) u p =
+    record { alarms = refl; note = quiet_deed (image_deed f (request.Activate flags) u) f.entity.instance }
+plain_aside f request.Commit u p =
+    record { alarms = refl; note = quiet_deed (image_deed f request.Commit u) f.entity.instance }
+plain_aside f (request.Reboot flags) u p =
+    record { alarms = refl; note = quiet_reboot (reboot_code f.entity) }
 
 pub carries_aside : (tci : ℕ) (entity : EntityId) (q : Request) (bytes : List ℕ) (u : Onu)
     (r : Reception) → bytes ≡ spelling (plain (Asked tci entity q)) → is_plain q ≡ true

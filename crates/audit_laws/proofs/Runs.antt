@@ -8,9 +8,11 @@ use Rattle.omci_types.specs.declared.EntityId.{EntityId}
 use Rattle.message_spec.specs.declared.Request.TheVariants as request
 use Rattle.frame_spec.specs.Widths.{filled}
 use Rattle.alarm_spec.specs.declared.TheConstants.{BITMAP_BYTES}
-use Rattle.script_spec.specs.Script.{Header, Action, Probe, Reset, Get, Create, Set, Delete, Resync, Audit, Check, Deliver, Flow, NoiseUnit, NoiseOlt, Tick, Sense, Alarm, CutUnit, CutOlt, StartUnit, StartOlt, IsAction}
+use Rattle.script_spec.specs.Script.{Header, Action, Probe, Reset, Get, Create, Set, Delete, Activate, Commit, Reboot, Resync, Audit, Check, Image, Deliver, Flow, CutIn, NoiseUnit, NoiseOlt, Tick, Sense, Alarm, CutUnit, CutOlt, StartUnit, StartOlt, IsAction}
 use Rattle.link_spec.specs.declared.Direction.TheVariants.{Down, Up}
 use Rattle.lane_spec.specs.Command.{sync_entity}
+use Rattle.unit_spec.specs.declared.TheConstants.{ONU_G}
+use Rattle.manager_spec.specs.Upgrade.{image_entity}
 use Rattle.history_spec.specs.History.{AuditedRight}
 use Rattle.world_spec.specs.Ends.{Step}
 use Rattle.world_spec.specs.Nodes.{Nodes, first_nodes, delivery, nodes_after_step, flow_from, oldest_fresh, flow, acted, next_event, step, nodes_after}
@@ -20,7 +22,7 @@ use Rattle.world_laws.proofs.Reading.{no_baseline}
 use Rattle.resync_laws.proofs.Lines.{Fine}
 use Rattle.resync_laws.proofs.Runs.{Promises, with_event, linked_of, reach_step, reach_fresh, first_reached, reached_fine}
 use Rattle.audit_laws.proofs.Known.{IsAlarmed}
-use Rattle.audit_laws.proofs.Lines.{NodesGood, StepGood, both_good, probe_line, submit_line, check_line, resync_line, audit_line, second_line, cut_unit_line, cut_manager_line, start_unit_line, start_manager_line, sense_line, alarm_line, noise_line, delivery_line, first_good}
+use Rattle.audit_laws.proofs.Lines.{NodesGood, StepGood, both_good, probe_line, submit_line, check_line, resync_line, audit_line, image_line, second_line, cut_unit_line, cut_manager_line, start_unit_line, start_manager_line, sense_line, alarm_line, noise_line, delivery_line, cut_delivery_line, first_good}
 
 -- ---- the ranges of an alarm
 
@@ -44,7 +46,7 @@ module _ (p : Promises) where
   fine_at : (k : ℕ) (n : Nodes) (t : Told) → AreReached (with_event k n) t → Fine n t
   fine_at k n t r =
       let f = reached_fine p (with_event k n) t r in
-      record { good = f.good; versions = f.versions }
+      record { good = f.good }
 
   -- ---- a flow
 
@@ -87,6 +89,15 @@ module _ (p : Promises) where
   acted_line Resync k n t g r h = resync_line n t (fine_at k n t r) g
   acted_line Audit k n t g r h = audit_line n t (fine_at k n t r) g
   acted_line Check k n t g r h = check_line n t (fine_at k n t r) g
+  acted_line (Activate lane slot) k n t g r h =
+      submit_line n t (fine_at k n t r) g lane (image_entity slot) (request.Activate 0)
+  acted_line (Commit lane slot) k n t g r h =
+      submit_line n t (fine_at k n t r) g lane (image_entity slot) request.Commit
+  acted_line (Reboot lane) k n t g r h =
+      submit_line n t (fine_at k n t r) g lane ONU_G (request.Reboot 0)
+  acted_line (Image slot asked check image) k n t g r h =
+      image_line n t (fine_at k n t r) g slot asked check image
+  acted_line (CutIn number call pick) k n t g r h = cut_delivery_line call pick number n t g
   acted_line (Deliver number) k n t g r h =
       delivery_line number n t (fine_at k n t r) g (linked_of p k n t r)
   acted_line (Flow times) k n t g r h = flow_line times n t k g r

@@ -1,5 +1,6 @@
 -- Packets that come to the unit.
-use Rattle.std.proofs.Common.{◌≡◌, ◌≢◌, ℕ, ◌<◌, ◌^◌, List, [], ◌∷◌, ◌++◌, length, replicate, slice_get, Option, Some, None, ◌⊎◌, inl, inr, refl, sym, ap, subst, ◌∙◌, arith}
+use Rattle.std.proofs.Common.{false}
+use Rattle.std.proofs.Common.{◌≡◌, ◌≢◌, ℕ, ◌<◌, ◌^◌, List, [], ◌∷◌, ◌++◌, length, replicate, reverse, slice_get, Option, Some, None, ◌⊎◌, inl, inr, refl, sym, ap, subst, ◌∙◌, arith}
 use Rattle.std.proofs.lemmas.Option.{same_Some}
 use Rattle.omci_types.specs.declared.Frame.{Frame}
 use Rattle.omci_types.specs.declared.Priority.{Priority}
@@ -11,22 +12,24 @@ use Rattle.alarm_spec.specs.Alarms.{Alarms, row_at, IsWhole}
 use Rattle.link_spec.specs.declared.Direction.TheVariants.{Down}
 use Rattle.link_spec.specs.Link.{Sent, Link, lane_of}
 use Rattle.lane_spec.specs.Lane.{Waiting}
-use Rattle.manager_spec.specs.Manager.{Stage, Probing, Asking, Gathering, AskingAlarms, GatheringRows, Manager}
+use Rattle.manager_spec.specs.Manager.{Stage, Probing, Asking, Gathering, AskingAlarms, GatheringRows, StartingImage, SendingImage, EndingImage, DelayingEnd, Manager}
+use Rattle.unit_spec.specs.declared.Did.{Did}
 use Rattle.unit_spec.specs.declared.Did.TheVariants as did
 use Rattle.unit_spec.specs.declared.Note.{Note}
 use Rattle.unit_spec.specs.declared.Note.TheVariants as note
 use Rattle.unit_spec.specs.Onu.{Onu, AlarmSnapshot, Reception, Answer, response_frame, get_alarms, alarms_next, or_zeros, next_row, alarms_fresh_again, onu_received}
-use Rattle.history_spec.specs.History.{LastReply, WasCarried, AuditedRight}
+use Rattle.history_spec.specs.History.{Entry, LastReply, WasCarried, AuditedRight}
 use Rattle.world_spec.specs.Happenings.{PacketCame}
-use Rattle.world_spec.specs.Ends.{unit_deed}
+use Rattle.world_spec.specs.Ends.{unit_deed, stored}
 use Rattle.world_spec.specs.History.{Told, name_at, tell_all}
-use Rattle.resync_laws.proofs.Unit.{Leaves, Carries, Receives, receives, From}
+use Rattle.resync_laws.proofs.Unit.{IsQuietNote, IsIdle, Leaves, Carries, Receives, receives, From}
 use Rattle.resync_laws.proofs.Invariants.{sent_at, IsMade, IsSent, IsApart, not_high, Good as Kept}
-use Rattle.resync_laws.proofs.Serving.{history_after, unit_after, AreWaited, command_bytes, waited_bytes}
+use Rattle.resync_laws.proofs.Telling.{tell_append}
+use Rattle.resync_laws.proofs.Serving.{history_after, quiet_history, unit_after, AreWaited, waited_bytes}
 use Rattle.audit_laws.proofs.Known.{UnitOk, few_alarms, answer_ok}
 use Rattle.audit_laws.proofs.Rows.{row_long}
 use Rattle.audit_laws.proofs.Reading.{IsAside, carries_aside, carries_alarms, carries_row}
-use Rattle.audit_laws.proofs.Invariants.{State, state_of, CountedRows, AsksAlarms, GathersRows, IsRow, AtStage, Keeps, stage_kept, Good}
+use Rattle.audit_laws.proofs.Invariants.{State, state_of, CountedRows, AsksAlarms, GathersRows, IsRow, AtStage, Keeps, stage_kept, Good, entries_good}
 
 -- what is told of a request that was carried out
 abbrev told_carried : Option Note → (lives number : ℕ) → Sent → List ℕ → Onu → Told → Told
@@ -37,6 +40,18 @@ told_carried n lives number s reply u t =
       names = t.names ++ name_at number t.names ∷ [];
       history = history_after n lives (name_at number t.names) reply u t.history;
     }
+
+-- a quiet note says nothing more
+quiet_carried : (n : Option Note) → IsQuietNote n → (lives number : ℕ) (s : Sent) (reply : List ℕ)
+    (u : Onu) (t : Told)
+    → told_carried n lives number s reply u t ≡ told_carried None lives number s reply u t
+quiet_carried n q lives number s reply u t =
+    ap (λ (es : List Entry). let x : Told = record t {
+      came = name_at number t.names;
+      packet = s.bytes;
+      names = t.names ++ name_at number t.names ∷ [];
+      history = es;
+    } in x) (quiet_history n q lives (name_at number t.names) reply u t.history)
 
 -- ---- an audit's own requests
 
@@ -176,8 +191,8 @@ module _ (lives : ℕ) (u : Onu) (m : Manager) (number : ℕ) (s : Sent) (t : To
       → (x : Stage) → AtStage before x → AtStage (later tci a) x
   aside_after tci a aside apart x h =
       subst
-      (λ n. AtStage (state_of lives (Some (unit_after tci a)) m
-      (told_carried n lives number s (spelling a.reply) u t)) x) (sym aside.note)
+      (λ v. AtStage (state_of lives (Some (unit_after tci a)) m v) x)
+      (sym (quiet_carried a.note aside.note lives number s (spelling a.reply) u t))
       (stage_kept _ _ (aside_keeps (unit_after tci a) (spelling a.reply) aside.alarms apart) x h)
 
 -- ---- a packet comes
@@ -187,6 +202,20 @@ abbrev pub Served : Reception → ℕ → Sent → ℕ → Onu → Option Manage
 Served r number s lives u manager t =
     Good lives (Some r.unit) manager
     (tell_all (PacketCame number s ∷ unit_deed r.did r.reply u lives) t)
+
+-- and after the entries of its store are told
+abbrev pub ServedWhole : Reception → ℕ → Sent → ℕ → Onu → Option Manager → Told → Type 0
+ServedWhole r number s lives u manager t =
+    Good lives (Some r.unit) manager
+    (tell_all (PacketCame number s ∷ unit_deed r.did r.reply u lives ++ stored r.stored) t)
+
+served_whole : (r : Reception) (number : ℕ) (s : Sent) (lives : ℕ) (u : Onu)
+    (manager : Option Manager) (t : Told) → Served r number s lives u manager t
+    → ServedWhole r number s lives u manager t
+served_whole r number s lives u manager t g =
+    let hs = PacketCame number s ∷ unit_deed r.did r.reply u lives in
+    subst (λ v. Good lives (Some r.unit) manager v) (sym (tell_append hs (stored r.stored) t))
+    (entries_good (reverse r.stored) lives (Some r.unit) manager (tell_all hs t) g)
 
 from_ok : (f : Frame) (u : Onu) (a : Answer) → From f u a → UnitOk u → UnitOk a.unit
 from_ok f u a (inl k) ok = subst (λ (x : Answer). UnitOk x.unit) (sym k.is) (answer_ok f k.request u ok)
@@ -200,20 +229,58 @@ module _ (number : ℕ) (s : Sent) (link : Link) (lives : ℕ) (u : Onu) (manage
   leaves_good : (r : Reception) → Leaves u r → Served r number s lives u manager t
   leaves_good r l = subst
       (λ x. Good lives (Some x) manager
-      (tell_all (PacketCame number s ∷ unit_deed r.did r.reply u lives) t)) (sym l.unit) (go l.did)
+      (tell_all (PacketCame number s ∷ unit_deed r.did r.reply u lives) t)) (sym l.unit)
+      (go r.did l.did)
     where
-      go : (r.did ≡ did.Dropped) ⊎ (r.did ≡ did.Kept) → Good lives (Some u) manager
-          (tell_all (PacketCame number s ∷ unit_deed r.did r.reply u lives) t)
-      go (inl e) = subst
-          (λ d. Good lives (Some u) manager
-          (tell_all (PacketCame number s ∷ unit_deed d r.reply u lives) t)) (sym e)
-          (record { job = h.job; unit_ok = h.unit_ok; right = h.right })
-      go (inr e) = subst
-          (λ d. Good lives (Some u) manager
-          (tell_all (PacketCame number s ∷ unit_deed d r.reply u lives) t)) (sym e)
-          (record { job = h.job; unit_ok = h.unit_ok; right = h.right })
+      held : Onu
+      held = record u { store = l.store }
 
-  module _ (c : Carries s.bytes u (onu_received s.bytes u)) where
+      still : (m : Manager) (v : Told) → Keeps (state_of lives (Some u) m v) (state_of lives (Some held) m v)
+      still m v = record {
+        tlow = refl;
+        asking = refl;
+        proved = λ e. e;
+        waits = λ w e. (w, e, refl);
+        drawn = omega arith;
+        high = λ w e. inr (w, e, refl);
+        gathering = λ rows e. e;
+        waiting = λ rows e f g. g;
+        replied = λ r last. last;
+        carried = λ was w x on has. was;
+        put_by = λ w x on has. (
+          u,
+          x,
+          refl,
+          ap (λ (y : Onu). y.alarm_snapshot) (same_Some held w on) ∙ has,
+          refl,
+        );
+        last = λ command alarms h. h;
+      }
+
+      held_ok : UnitOk held
+      held_ok = let k = h.unit_ok u refl in
+          record { whole = k.whole; known_alarms = k.known_alarms; fixed = k.fixed }
+
+      go : (d : Did) → IsIdle d → Good lives (Some held) manager
+          (tell_all (PacketCame number s ∷ unit_deed d r.reply u lives) t)
+      go did.Dropped i = record {
+        job = λ m e x g. stage_kept _ _ (still m t) x (h.job m e x g);
+        unit_ok = λ w e. subst UnitOk (same_Some held w e) held_ok;
+        right = h.right;
+      }
+      go did.Held i = record {
+        job = λ m e x g. stage_kept _ _ (still m t) x (h.job m e x g);
+        unit_ok = λ w e. subst UnitOk (same_Some held w e) held_ok;
+        right = h.right;
+      }
+      go did.Kept i = record {
+        job = λ m e x g. stage_kept _ _ (still m t) x (h.job m e x g);
+        unit_ok = λ w e. subst UnitOk (same_Some held w e) held_ok;
+        right = h.right;
+      }
+      go (did.Carried n) i = absurd i
+
+  module _ (c : Carries s.bytes u (onu_received false s.bytes u)) where
     abbrev answered : Answer
     answered = c.answer
 
@@ -222,12 +289,16 @@ module _ (number : ℕ) (s : Sent) (link : Link) (lives : ℕ) (u : Onu) (manage
     low_stage m e lane (Probing high low) at = tt
     low_stage m e lane Asking at = tt
     low_stage m e lane (Gathering expected next copy) at = tt
+    low_stage m e lane (StartingImage order asked image) at = tt
+    low_stage m e lane (SendingImage order outgoing resent) at = tt
+    low_stage m e lane (EndingImage order image busy) at = tt
+    low_stage m e lane (DelayingEnd order image busy) at = tt
     low_stage m e lane AskingAlarms at =
         let w = waited m answered.note e at.proved lane (ap (λ (r : Reception). r.did) c.is) in
         let same : w.waiting ≡ at.waiting = same_Some w.waiting at.waiting (sym w.waits ∙ at.waits) in
         let command = ap (λ (v : Waiting). v.command) same ∙ at.command in
-        let is = carries_alarms w.waiting.tci _ 0 s.bytes u (onu_received s.bytes u)
-        (waited_bytes w.waiting.tci w.waiting.command (request.Alarms 0) s.bytes w.bytes_are command) c in
+        let is = carries_alarms w.waiting.tci _ 0 s.bytes u (onu_received false s.bytes u)
+        (waited_bytes w.waiting (request.Alarms 0) s.bytes w.among command) c in
         subst (λ a. AsksAlarms (later lives u m number s t c.frame.tci a)) (sym is)
         (alarms_after lives u m number s t c.frame.tci c.frame w.name (h.unit_ok u refl) at)
     low_stage m e lane (GatheringRows expected next) at =
@@ -235,15 +306,15 @@ module _ (number : ℕ) (s : Sent) (link : Link) (lives : ℕ) (u : Onu) (manage
         let same : w.waiting ≡ at.1.waiting = same_Some w.waiting at.1.waiting (sym w.waits ∙ at.1.waits) in
         let command = ap (λ (v : Waiting). v.command) same ∙ at.1.command in
         let small : next < 2 ^ 16 = (let a = at.0.less in let b = at.0.count in let d = at.0.few in omega (arith, a, b, d)) in
-        let is = carries_row w.waiting.tci _ next s.bytes u (onu_received s.bytes u)
-        (waited_bytes w.waiting.tci w.waiting.command (request.AlarmsNext next) s.bytes w.bytes_are command) small c in
+        let is = carries_row w.waiting.tci _ next s.bytes u (onu_received false s.bytes u)
+        (waited_bytes w.waiting (request.AlarmsNext next) s.bytes w.among command) small c in
         subst (λ a. AtStage (later lives u m number s t c.frame.tci a) (GatheringRows expected next)) (sym is)
         (row_after lives u m number s t c.frame.tci c.frame expected next at)
 
     high_aside : lane_of s.bytes ≡ High → IsAside u answered
     high_aside lane = elim made.lane as (λ _. IsAside u answered) [
       | inl low ↦ not_high s.bytes low lane
-      | inr plainly ↦ carries_aside made.tci made.command.entity made.command.request s.bytes u (onu_received s.bytes u) (command_bytes made.tci made.command s.bytes made.bytes) plainly c
+      | inr plainly ↦ carries_aside made.tci made.entity made.request s.bytes u (onu_received false s.bytes u) made.bytes plainly c
     ]
 
     name_apart : (m : Manager) (w : Waiting) → manager ≡ Some m → m.low.outstanding ≡ Some w
@@ -256,6 +327,10 @@ module _ (number : ℕ) (s : Sent) (link : Link) (lives : ℕ) (u : Onu) (manage
     high_stage m e lane (Probing high low) at = tt
     high_stage m e lane Asking at = tt
     high_stage m e lane (Gathering expected next copy) at = tt
+    high_stage m e lane (StartingImage order asked image) at = tt
+    high_stage m e lane (SendingImage order outgoing resent) at = tt
+    high_stage m e lane (EndingImage order image busy) at = tt
+    high_stage m e lane (DelayingEnd order image busy) at = tt
     high_stage m e lane AskingAlarms at =
         aside_after lives u m number s t c.frame.tci answered (high_aside lane)
         (name_apart m at.waiting e at.waits lane) AskingAlarms at
@@ -272,6 +347,9 @@ module _ (number : ℕ) (s : Sent) (link : Link) (lives : ℕ) (u : Onu) (manage
     right_by None = h.right
     right_by (Some (note.Snapshot entities counter)) = h.right
     right_by (Some (note.Alarms rows)) = h.right
+    right_by (Some (note.Sealed slot size check)) = h.right
+    right_by (Some (note.Committed slot)) = h.right
+    right_by (Some (note.Leaving boot)) = h.right
 
     after_ok : UnitOk (unit_after c.frame.tci answered)
     after_ok = let a = from_ok c.frame u answered c.from (h.unit_ok u refl) in
@@ -299,13 +377,18 @@ module _ (number : ℕ) (s : Sent) (link : Link) (lives : ℕ) (u : Onu) (manage
     carried_with None is = carried_good None is
     carried_with (Some (note.Snapshot entities counter)) is = carried_good (Some (note.Snapshot entities counter)) is
     carried_with (Some (note.Alarms rows)) is = carried_good (Some (note.Alarms rows)) is
+    carried_with (Some (note.Sealed slot size check)) is = carried_good (Some (note.Sealed slot size check)) is
+    carried_with (Some (note.Committed slot)) is = carried_good (Some (note.Committed slot)) is
+    carried_with (Some (note.Leaving boot)) is = carried_good (Some (note.Leaving boot)) is
 
-    carries_good : Served (onu_received s.bytes u) number s lives u manager t
+    carries_good : Served (onu_received false s.bytes u) number s lives u manager t
     carries_good = subst (λ r. Served r number s lives u manager t) (sym c.is) (carried_with answered.note refl)
 
-  received_good : Receives s.bytes u (onu_received s.bytes u) → Served (onu_received s.bytes u) number s lives u manager t
-  received_good (inl l) = leaves_good (onu_received s.bytes u) l
+  received_good : Receives s.bytes u (onu_received false s.bytes u) → Served (onu_received false s.bytes u) number s lives u manager t
+  received_good (inl l) = leaves_good (onu_received false s.bytes u) l
   received_good (inr c) = carries_good c
 
-  pub unit_good : Served (onu_received s.bytes u) number s lives u manager t
-  unit_good = received_good (receives s.bytes u)
+  pub unit_good : ServedWhole (onu_received false s.bytes u) number s lives u manager t
+  unit_good =
+      served_whole (onu_received false s.bytes u) number s lives u manager t
+      (received_good (receives s.bytes u))

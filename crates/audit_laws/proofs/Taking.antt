@@ -40,11 +40,11 @@ use Rattle.manager_spec.specs.Copying.{followed_if, followed}
 use Rattle.manager_spec.specs.declared.ResyncReason.TheVariants as reason
 use Rattle.manager_spec.specs.declared.Report.{Report}
 use Rattle.manager_spec.specs.declared.Report.TheVariants as report
-use Rattle.manager_spec.specs.Manager.{Stage, Probing, Asking, Gathering, AskingAlarms, GatheringRows, Manager, Outcome, lane_in, with_report, phase_left, sends_nothing, and_then}
+use Rattle.manager_spec.specs.Manager.{Stage, Probing, Asking, Gathering, AskingAlarms, GatheringRows, StartingImage, SendingImage, EndingImage, DelayingEnd, Order, Manager, Outcome, lane_in, with_report, phase_left, sends_nothing, and_then}
 use Rattle.manager_spec.specs.Resync.{with_job, resync_failed, resync_done, done_if_counted, gather_unless_all, gather_on, piece_by}
 use Rattle.manager_spec.specs.Audit.{with_table, audit_failed, audit_done, rows_unless_all, rows_on, row_by, row_came, audit_lost, notice_taken, alarm_as, alarm_came, notice_came}
 use Rattle.manager_spec.specs.Jobs.{job_goes_on}
-use Rattle.manager_spec.specs.Steps.{response_of, with_taken, job_probed, probe_taken, code_of, first_value, expected_counter, compared, checked_if, followed_by, checked_by, freed, upload_by, piece_by_reply, alarms_by, row_by_reply, job_by, taken_as, packet_dropped, not_taken, after_packet}
+use Rattle.manager_spec.specs.Steps.{response_of, with_taken, job_probed, probe_taken, code_of, first_value, expected_counter, compared, checked_if, followed_by, checked_by, freed, upload_by, piece_by_reply, alarms_by, row_by_reply, start_by_reply, window_by_reply, end_by_reply, job_by, taken_as, packet_dropped, not_taken, after_packet}
 use Rattle.unit_spec.specs.Onu.{Onu, AlarmSnapshot, response_frame}
 use Rattle.history_spec.specs.History.{WasCarried, LastAlarms, AuditedRight}
 use Rattle.world_spec.specs.History.{Told, notices_if}
@@ -52,7 +52,8 @@ use Rattle.world_laws.proofs.Manager.{taken_by, untaken, IsTaken, hearing_is}
 use Rattle.resync_laws.proofs.Invariants.{is_job, Lanes}
 use Rattle.resync_laws.proofs.Telling.{is_synced, NoneSynced, none_more}
 use Rattle.resync_laws.proofs.Going.{IsFree}
-use Rattle.resync_laws.proofs.Taking.{Mild, mild_then, mild_report, Fails, fails, fails_audit, mild_followed, mild_checked, took_told, or_true, not_job, IsOwn, IsHeard}
+use Rattle.window_spec.specs.Outgoing.{Outgoing}
+use Rattle.resync_laws.proofs.Taking.{IsImageStage, Downloads, start_downloads, window_downloads, end_downloads, Mild, mild_then, mild_report, Fails, fails, fails_audit, mild_followed, mild_checked, took_told, or_true, not_job, IsOwn, IsHeard}
 use Rattle.audit_laws.proofs.Rows.{Fits, row_fits, zeros_empty}
 use Rattle.audit_laws.proofs.Reading.{alarms_read, row_read}
 use Rattle.audit_laws.proofs.Invariants.{same_alarms, with_notices, State, state_of, AsksAlarms, GathersRows, AtStage, is_audit, JobOk, job_none, job_other, Keeps, stage_kept}
@@ -248,6 +249,18 @@ module _ (m : Manager) (lives : ℕ) (unit : Option Onu) (t : Told) (j : JobOk l
       let b : Manager = with_report r (with_table table m) in
       quiet_on b (none_more m.reports r none_told s)
       (job_other lives unit b t (Gathering expected next copy) e refl)
+  lost_on (Some (StartingImage order asked image)) e why table r s =
+      let b : Manager = with_report r (with_table table m) in
+      quiet_on b (none_more m.reports r none_told s) (job_other lives unit b t (StartingImage order asked image) e refl)
+  lost_on (Some (SendingImage order outgoing resent)) e why table r s =
+      let b : Manager = with_report r (with_table table m) in
+      quiet_on b (none_more m.reports r none_told s) (job_other lives unit b t (SendingImage order outgoing resent) e refl)
+  lost_on (Some (EndingImage order image busy)) e why table r s =
+      let b : Manager = with_report r (with_table table m) in
+      quiet_on b (none_more m.reports r none_told s) (job_other lives unit b t (EndingImage order image busy) e refl)
+  lost_on (Some (DelayingEnd order image busy)) e why table r s =
+      let b : Manager = with_report r (with_table table m) in
+      quiet_on b (none_more m.reports r none_told s) (job_other lives unit b t (DelayingEnd order image busy) e refl)
   lost_on (Some AskingAlarms) e why table r s =
       fails_now why (with_report r (with_table table m)) (none_more m.reports r none_told s)
   lost_on (Some (GatheringRows expected next)) e why table r s =
@@ -282,7 +295,9 @@ module _ (m : Manager) (lives : ℕ) (unit : Option Onu) (t : Told) (j : JobOk l
       (with_report r (with_table (with_last number (noticed m.table.gathering (one, bitmap) m.table)) m)))
       lives unit t
   taken_on one bitmap number r e =
-      did_quiet _ lives unit t (record t { notices = t.notices ++ (one, bitmap) ∷ [] }) refl
+      did_quiet (notice_taken one bitmap
+      (with_report r (with_table (with_last number (noticed m.table.gathering (one, bitmap) m.table)) m)))
+      lives unit t (record t { notices = t.notices ++ (one, bitmap) ∷ [] }) refl
       (none_more m.reports r none_told e)
       (record {
         job = λ s f. stage_kept _ _ (noticed_keeps one bitmap number r) s (j s f);
@@ -366,6 +381,10 @@ module _ (bytes : List ℕ) (f : Frame) (read : packet_frame bytes ≡ Some f) (
     audit_purpose (Probing high low) e a = absurd (false≢true a)
     audit_purpose Asking e a = absurd (false≢true a)
     audit_purpose (Gathering expected next copy) e a = absurd (false≢true a)
+    audit_purpose (StartingImage order asked image) e a = absurd (false≢true a)
+    audit_purpose (SendingImage order outgoing resent) e a = absurd (false≢true a)
+    audit_purpose (EndingImage order image busy) e a = absurd (false≢true a)
+    audit_purpose (DelayingEnd order image busy) e a = absurd (false≢true a)
     audit_purpose AskingAlarms e a =
         let at = j AskingAlarms e in
         ap (λ (v : Waiting). v.command.purpose) (same_Some w at.waiting (sym waits ∙ at.waits))
@@ -380,6 +399,10 @@ module _ (bytes : List ℕ) (f : Frame) (read : packet_frame bytes ≡ Some f) (
     callers_ready callers (Probing high low) e a = tt
     callers_ready callers Asking e a = tt
     callers_ready callers (Gathering expected next copy) e a = tt
+    callers_ready callers (StartingImage order asked image) e a = tt
+    callers_ready callers (SendingImage order outgoing resent) e a = tt
+    callers_ready callers (EndingImage order image busy) e a = tt
+    callers_ready callers (DelayingEnd order image busy) e a = tt
     callers_ready callers AskingAlarms e a =
         not_job w.command.purpose (audit_purpose AskingAlarms e refl) callers
     callers_ready callers (GatheringRows expected next) e a =
@@ -393,6 +416,10 @@ module _ (bytes : List ℕ) (f : Frame) (read : packet_frame bytes ≡ Some f) (
     probed_ready callers (Some Asking) e s g a = subst (Ready a) (same_Some Asking s g) tt
     probed_ready callers (Some (Gathering expected next copy)) e s g a =
         subst (Ready a) (same_Some (Gathering expected next copy) s g) tt
+    probed_ready callers (Some (StartingImage order asked image)) e s g a = subst (Ready a) (same_Some (StartingImage order asked image) s g) tt
+    probed_ready callers (Some (SendingImage order outgoing resent)) e s g a = subst (Ready a) (same_Some (SendingImage order outgoing resent) s g) tt
+    probed_ready callers (Some (EndingImage order image busy)) e s g a = subst (Ready a) (same_Some (EndingImage order image busy) s g) tt
+    probed_ready callers (Some (DelayingEnd order image busy)) e s g a = subst (Ready a) (same_Some (DelayingEnd order image busy) s g) tt
     probed_ready callers (Some AskingAlarms) e s g a =
         not_job w.command.purpose (audit_purpose AskingAlarms e refl) callers
     probed_ready callers (Some (GatheringRows expected next)) e s g a =
@@ -437,6 +464,55 @@ module _ (bytes : List ℕ) (f : Frame) (read : packet_frame bytes ≡ Some f) (
     piece_reply_on _ expected next copy e =
         freed_on (Some (Gathering expected next copy)) e
         (λ x g. one_stage (Gathering expected next copy) x refl g)
+
+    -- a download goes on, or ends
+    image_ready : (s : Stage) → IsImageStage s → (a : State) → Ready a s
+    image_ready (Probing high low) h a = absurd h
+    image_ready Asking h a = absurd h
+    image_ready (Gathering expected next copy) h a = absurd h
+    image_ready AskingAlarms h a = absurd h
+    image_ready (GatheringRows expected next) h a = absurd h
+    image_ready (StartingImage order asked image) h a = tt
+    image_ready (SendingImage order outgoing resent) h a = tt
+    image_ready (EndingImage order image busy) h a = tt
+    image_ready (DelayingEnd order image busy) h a = tt
+
+    download_on : (b : Manager) → Downloads low_free b
+        → Did (and_then (with_taken Low b) job_goes_on) lives unit t
+    download_on b k =
+        did_then (with_taken Low b) lives unit t (took_told Low t) refl refl
+        (k.reports (subst NoneSynced (sym quiet) tt)) refl known right
+        (λ s e. image_ready s (k.job s e) _)
+
+    start_reply_on : (r : Option Response) (order : Order) (asked : ℕ) (image : List ℕ)
+        → m.job ≡ Some (StartingImage order asked image)
+        → Did (and_then (with_taken Low (start_by_reply r order asked image f low_free)) job_goes_on)
+        lives unit t
+    start_reply_on (Some (response.Start code window)) order asked image e =
+        download_on _ (start_downloads code.0 window order asked image low_free)
+    start_reply_on _ order asked image e =
+        freed_on (Some (StartingImage order asked image)) e
+        (λ x g. one_stage (StartingImage order asked image) x refl g)
+
+    window_reply_on : (r : Option Response) (order : Order) (outgoing : Outgoing) (resent : ℕ)
+        → m.job ≡ Some (SendingImage order outgoing resent)
+        → Did (and_then (with_taken Low (window_by_reply r order outgoing resent f low_free))
+        job_goes_on) lives unit t
+    window_reply_on (Some (response.Section code number)) order outgoing resent e =
+        download_on _ (window_downloads code.0 order outgoing resent low_free)
+    window_reply_on _ order outgoing resent e =
+        freed_on (Some (SendingImage order outgoing resent)) e
+        (λ x g. one_stage (SendingImage order outgoing resent) x refl g)
+
+    end_reply_on : (r : Option Response) (order : Order) (image : List ℕ) (busy : ℕ)
+        → m.job ≡ Some (EndingImage order image busy)
+        → Did (and_then (with_taken Low (end_by_reply r order image busy f low_free)) job_goes_on)
+        lives unit t
+    end_reply_on (Some (response.End code)) order image busy e =
+        download_on _ (end_downloads code.0 order image busy low_free)
+    end_reply_on _ order image busy e =
+        freed_on (Some (EndingImage order image busy)) e
+        (λ x g. one_stage (EndingImage order image busy) x refl g)
 
     -- the audit's own replies
     alarms_on : IsOwn lives t bytes → AsksAlarms (state_of lives unit m t)
@@ -496,6 +572,15 @@ module _ (bytes : List ℕ) (f : Frame) (read : packet_frame bytes ≡ Some f) (
     job_on own (Some Asking) e = upload_on (response_of f) e
     job_on own (Some (Gathering expected next copy)) e =
         piece_reply_on (response_of f) expected next copy e
+    job_on own (Some (StartingImage order asked image)) e =
+        start_reply_on (response_of f) order asked image e
+    job_on own (Some (SendingImage order outgoing resent)) e =
+        window_reply_on (response_of f) order outgoing resent e
+    job_on own (Some (EndingImage order image busy)) e =
+        end_reply_on (response_of f) order image busy e
+    job_on own (Some (DelayingEnd order image busy)) e =
+        freed_on (Some (DelayingEnd order image busy)) e
+        (λ x g. one_stage (DelayingEnd order image busy) x refl g)
     job_on own (Some AskingAlarms) e = alarms_on own (j AskingAlarms e)
     job_on own (Some (GatheringRows expected next)) e =
         row_reply_on expected next own (j (GatheringRows expected next) e)
@@ -576,6 +661,10 @@ module _ (bytes : List ℕ) (f : Frame) (read : packet_frame bytes ≡ Some f) (
     probed_high b k (Some Asking) e s g = subst (Ready b) (same_Some Asking s g) tt
     probed_high b k (Some (Gathering expected next copy)) e s g =
         subst (Ready b) (same_Some (Gathering expected next copy) s g) tt
+    probed_high b k (Some (StartingImage order asked image)) e s g = subst (Ready b) (same_Some (StartingImage order asked image) s g) tt
+    probed_high b k (Some (SendingImage order outgoing resent)) e s g = subst (Ready b) (same_Some (SendingImage order outgoing resent) s g) tt
+    probed_high b k (Some (EndingImage order image busy)) e s g = subst (Ready b) (same_Some (EndingImage order image busy) s g) tt
+    probed_high b k (Some (DelayingEnd order image busy)) e s g = subst (Ready b) (same_Some (DelayingEnd order image busy) s g) tt
     probed_high b k (Some AskingAlarms) e s g =
         subst (Ready b) (same_Some AskingAlarms s g)
         (stage_kept _ b k AskingAlarms (j AskingAlarms e))

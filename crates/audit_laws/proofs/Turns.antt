@@ -9,29 +9,32 @@ use Rattle.message_spec.specs.declared.Request.{Request}
 use Rattle.message_spec.specs.declared.Request.TheVariants as request
 use Rattle.alarm_spec.specs.Alarms.{Alarm}
 use Rattle.alarm_spec.specs.Table.{Table}
+use Rattle.lane_spec.specs.declared.LaneTick.TheVariants.{Repeat}
 use Rattle.lane_spec.specs.declared.TheConstants.{MOST_REPEATS}
-use Rattle.lane_spec.specs.Command.{Command, probe_command, check_command, ask, job_command, sync_entity}
+use Rattle.lane_spec.specs.Command.{Command, probe_command, check_command, ask, job_command, sync_entity, command_packets}
 use Rattle.lane_spec.specs.Lane.{Lane, Waiting, with_command, is_changed_by, timeout_of, tick_by, tick_waiting, lane_tick}
 use Rattle.manager_spec.specs.declared.Phase.{Phase}
 use Rattle.manager_spec.specs.declared.Phase.TheVariants as phase
 use Rattle.manager_spec.specs.declared.Refusal.TheVariants.{Unproven}
 use Rattle.manager_spec.specs.declared.Report.TheVariants as report
-use Rattle.manager_spec.specs.Manager.{Stage, Probing, Asking, Gathering, AskingAlarms, GatheringRows, Manager, Outcome, lane_in, with_report, phase_left, leave_step, sends_nothing, and_then, command_sent}
-use Rattle.manager_spec.specs.Submitting.{unproven, occupied, job_running, out_of_step, job_in_the_way, other_change, second_change, probe_refusal, needs_copy, submit_refusal, leaves_copy, leave_if, check_refusal, resync_refusal, resync_begun, audit_refusal, audit_asked}
+use Rattle.manager_spec.specs.Manager.{Stage, Probing, Asking, Gathering, AskingAlarms, GatheringRows, StartingImage, SendingImage, EndingImage, DelayingEnd, Order, Manager, Outcome, lane_in, with_report, phase_left, leave_step, sends_nothing, and_then, command_sent}
+use Rattle.manager_spec.specs.Submitting.{unproven, occupied, job_running, out_of_step, job_in_the_way, other_change, second_change, probe_refusal, needs_copy, submit_refusal, leaves_copy, leave_if, check_refusal, resync_refusal, resync_begun, audit_refusal, audit_asked, image_refusal, image_asked}
 use Rattle.manager_spec.specs.Resync.{with_job}
-use Rattle.manager_spec.specs.Jobs.{waits_for, job_lost}
+use Rattle.manager_spec.specs.Upgrade.{start_command, end_image_command}
+use Rattle.manager_spec.specs.Jobs.{waits_for, job_lost, is_free, job_goes_on, resumed_by, job_resumes}
 use Rattle.manager_spec.specs.Steps.{loss_seen, lane_ticked, tick_lane, after_tick}
 use Rattle.unit_spec.specs.Onu.{Onu}
 use Rattle.history_spec.specs.History.{AuditedRight}
 use Rattle.world_spec.specs.Happenings.{ReplyTaken, NoticeTaken}
 use Rattle.world_spec.specs.History.{Told, tell_all}
-use Rattle.resync_laws.proofs.Sending.{drawn_low, drawn_high, again_low, again_high}
+use Rattle.resync_laws.proofs.Sending.{drawn_low, drawn_high}
 use Rattle.resync_laws.proofs.Telling.{NoneSynced}
 use Rattle.resync_laws.proofs.Going.{never, never_replied}
 use Rattle.resync_laws.proofs.Taking.{Mild, mild_same, mild_leave}
-use Rattle.resync_laws.proofs.Turns.{two_none, three_none, five_none, not_running, lost_fails, lane_quiet, lane_taken, lane_noticed}
+use Rattle.resync_laws.proofs.Turns.{two_none, three_none, five_none, not_running, lost_fails, lane_quiet, lane_taken, lane_noticed, resume_silent}
 use Rattle.audit_laws.proofs.Invariants.{state_of, AsksAlarms, AtStage, JobOk, job_none, job_other, Keeps, stage_kept}
-use Rattle.audit_laws.proofs.Telling.{Did, Goes, did_quiet, goes_nothing, goes_low, goes_high, goes_both}
+use Rattle.audit_laws.proofs.Telling.{Did, Goes, did_quiet, goes_nothing, goes_sent, goes_low, goes_high, goes_both}
+use Rattle.audit_laws.proofs.Going.{asks_other}
 use Rattle.audit_laws.proofs.Taking.{Known}
 
 -- a lane that isn't unproven
@@ -154,6 +157,17 @@ module _ (m : Manager) (lives : ℕ) (unit : Option Onu) (t : Told) (known : Kno
         fresh = λ u s on was has. never t known lives was;
       }
 
+  -- a download is asked for
+  pub image_good : (order : Order) (asked : ℕ) (image : List ℕ) → image_refusal m ≡ None
+      → Did (image_asked order asked image m) lives unit t
+  image_good order asked image e =
+      let s : Stage = StartingImage order asked image in
+      let c = start_command order asked image in
+      let n : Manager = record m { job = Some s; low = with_command c m.low } in
+      did_quiet (image_asked order asked image m) lives unit t t refl none_told
+      (goes_low false c (with_job (Some s) m) lives unit t
+      (job_other lives unit n (drawn_low false t) s refl refl) right)
+
   -- ---- a request for an entity
 
   mild_if : (b : Bool) → Mild m (leave_if b m)
@@ -248,6 +262,10 @@ module _ (m : Manager) (lives : ℕ) (unit : Option Onu) (t : Told) (j : JobOk l
   no_audit (Some (Gathering expected next copy)) e w x same = absurd (false≢true (sym w))
   no_audit (Some AskingAlarms) e w x same = absurd (false≢true (sym w))
   no_audit (Some (GatheringRows expected next)) e w x same = absurd (false≢true (sym w))
+  no_audit (Some (StartingImage order asked image)) e w x same = absurd (false≢true (sym w))
+  no_audit (Some (SendingImage order outgoing resent)) e w x same = absurd (false≢true (sym w))
+  no_audit (Some (EndingImage order image busy)) e w x same = absurd (false≢true (sym w))
+  no_audit (Some (DelayingEnd order image busy)) e w x same = absurd (false≢true (sym w))
 
   low_by : (w : Waiting) → m.low.outstanding ≡ Some w → (over may : Bool)
       → Goes (lane_ticked (tick_by over may w m.low).tick Low (Some w) (tick_by over may w m.low).lane m)
@@ -259,10 +277,9 @@ module _ (m : Manager) (lives : ℕ) (unit : Option Onu) (t : Told) (j : JobOk l
       (λ s g. stage_kept _ _ (later_keeps w v lives unit m t t e refl refl) s (j s g)) right
   low_by w e true true =
       let v : Waiting = record w { ticks = 0; repeats = w.repeats + 1 } in
-      record {
-        job = λ s g. stage_kept _ _ (later_keeps w v lives unit m t (again_low t) e refl refl) s (j s g);
-        right = right;
-      }
+      goes_sent (lane_ticked Repeat Low (Some w) (record m.low { outstanding = Some v }) m) Low false
+      false (command_packets w.tci w.command) lives unit t t refl refl
+      (λ s g. stage_kept _ _ (later_keeps w v lives unit m t t e refl refl) s (j s g)) right
   low_by w e true false =
       let l : Lane = record m.low { proved = false; outstanding = None } in
       let n : Manager = with_report (report.GaveUp w.tci) (record m { low = l }) in
@@ -279,10 +296,9 @@ module _ (m : Manager) (lives : ℕ) (unit : Option Onu) (t : Told) (j : JobOk l
       (λ s g. stage_kept _ _ (high_later_keeps (Some v) m.high.proved lives unit m t t (λ x f. (w, e)) refl) s (j s g)) right
   high_by w e true true =
       let v : Waiting = record w { ticks = 0; repeats = w.repeats + 1 } in
-      record {
-        job = λ s g. stage_kept _ _ (high_later_keeps (Some v) m.high.proved lives unit m t (again_high t) (λ x f. (w, e)) refl) s (j s g);
-        right = right;
-      }
+      goes_sent (lane_ticked Repeat High (Some w) (record m.high { outstanding = Some v }) m) High false
+      false (command_packets w.tci w.command) lives unit t t refl refl
+      (λ s g. stage_kept _ _ (high_later_keeps (Some v) m.high.proved lives unit m t t (λ x f. (w, e)) refl) s (j s g)) right
   high_by w e true false =
       let l : Lane = record m.high { proved = false; outstanding = None } in
       loss_goes (waits_for High m.job) (is_changed_by (Some w)) w.tci
@@ -303,19 +319,36 @@ module _ (m : Manager) (lives : ℕ) (unit : Option Onu) (t : Told) (j : JobOk l
   unfolding lane_tick
   lane_goes lane = tick_by_waiting lane (lane_in lane m).outstanding refl
 
+-- ---- the job after a second
+
+resume_goes : (job : Option Stage) (m : Manager) (lives : ℕ) (unit : Option Onu) (t : Told)
+    → m.job ≡ job → JobOk lives unit m t → AuditedRight t.history
+    → Goes (resumed_by job m) lives unit t
+unfolding job_goes_on
+resume_goes (Some (DelayingEnd order image busy)) m lives unit t e j right =
+    let s : Stage = EndingImage order image busy in
+    asks_other (with_job (Some s) m) lives unit t right (is_free m.low) s
+    (end_image_command order image) refl refl
+resume_goes _ m lives unit t e j right = goes_nothing m lives unit t j right
+
 pub tick_good : (m : Manager) (lives : ℕ) (unit : Option Onu) (t : Told) → JobOk lives unit m t
     → AuditedRight t.history → m.reports ≡ [] → Did (after_tick m) lives unit t
 unfolding after_tick
 tick_good m lives unit t j right quiet =
     let a : Outcome = tick_lane High m in
-    did_quiet (and_then a (tick_lane Low)) lives unit t t
-    (ap (λ (l : List Priority). tell_all (map ReplyTaken (l ++ (tick_lane Low a.manager).taken)
-    ++ map NoticeTaken (a.noticed ++ (tick_lane Low a.manager).noticed)) t) (lane_taken High m)
-    ∙ ap (λ (l : List Priority). tell_all (map ReplyTaken l
-    ++ map NoticeTaken (a.noticed ++ (tick_lane Low a.manager).noticed)) t) (lane_taken Low a.manager)
-    ∙ ap (λ (l : List Alarm). tell_all (map NoticeTaken (l ++ (tick_lane Low a.manager).noticed)) t)
-    (lane_noticed High m)
-    ∙ ap (λ (l : List Alarm). tell_all (map NoticeTaken l) t) (lane_noticed Low a.manager))
-    (lane_quiet Low a.manager (lane_quiet High m (subst NoneSynced (sym quiet) tt)))
+    let b : Outcome = and_then a (tick_lane Low) in
+    let q = resume_silent b.manager.job b.manager in
+    let r : Outcome = job_resumes b.manager in
+    did_quiet (and_then b job_resumes) lives unit t t
+    (ap (λ (l : List Priority). tell_all (map ReplyTaken ((l ++ (tick_lane Low a.manager).taken) ++ r.taken) ++ map NoticeTaken (b.noticed ++ r.noticed)) t) (lane_taken High m)
+    ∙ ap (λ (l : List Priority). tell_all (map ReplyTaken (l ++ r.taken) ++ map NoticeTaken (b.noticed ++ r.noticed)) t) (lane_taken Low a.manager)
+    ∙ ap (λ (l : List Priority). tell_all (map ReplyTaken l ++ map NoticeTaken (b.noticed ++ r.noticed)) t) q.taken
+    ∙ ap (λ (l : List Alarm). tell_all (map NoticeTaken ((l ++ (tick_lane Low a.manager).noticed) ++ r.noticed)) t) (lane_noticed High m)
+    ∙ ap (λ (l : List Alarm). tell_all (map NoticeTaken (l ++ r.noticed)) t) (lane_noticed Low a.manager)
+    ∙ ap (λ (l : List Alarm). tell_all (map NoticeTaken l) t) q.noticed)
+    (subst NoneSynced (sym q.reports)
+    (lane_quiet Low a.manager (lane_quiet High m (subst NoneSynced (sym quiet) tt))))
+    (goes_both b job_resumes lives unit t
     (goes_both a (tick_lane Low) lives unit t (lane_goes m lives unit t j right High)
     (λ u k r. lane_goes a.manager lives unit u k r Low))
+    (λ u k r. resume_goes b.manager.job b.manager lives unit u refl k r))

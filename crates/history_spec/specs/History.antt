@@ -5,6 +5,7 @@ use Rattle.std.specs.Prelude.{ℕ, ◌≡◌, ◌≢◌, ◌⊎◌, List, [], �
 use Rattle.mib_spec.specs.Database.{Database}
 use Rattle.upload_spec.specs.Pieces.{Copy, without_makers}
 use Rattle.alarm_spec.specs.Alarms.{Alarm, Alarms, after}
+use Rattle.store_spec.specs.History.{StoreEntry, Checked, CommitBegun, Committed}
 
 -- what happened beside the carrying out of a command and the taking of its reply
 pub data Remark : Type 0 where
@@ -17,6 +18,10 @@ pub data Remark : Type 0 where
   -- an audit whose get all alarms command this is gave the manager this table; since its reply these
   -- notices were taken, oldest first
   Audited : (command : ℕ) (table : Alarms) (notices : List Alarm) → Remark
+  -- what the unit's store of software images has for the history
+  Stored : (entry : StoreEntry) → Remark
+  -- a download of this image into that slot, which was handed to the manager, has ended
+  Downloaded : (slot : ℕ) (image : List ℕ) → Remark
 
 pub data Entry : Type 0 where
   -- in that life of the unit the command was carried out; this is its reply's packet, and the
@@ -68,6 +73,8 @@ LastSnapshot command copy (Remarked (TookSnapshot life c database) ∷ older) =
 LastSnapshot command copy (Remarked (Synced c other) ∷ older) = LastSnapshot command copy older
 LastSnapshot command copy (Remarked (TookAlarms life c alarms) ∷ older) = LastSnapshot command copy older
 LastSnapshot command copy (Remarked (Audited c table notices) ∷ older) = LastSnapshot command copy older
+LastSnapshot command copy (Remarked (Stored entry) ∷ older) = LastSnapshot command copy older
+LastSnapshot command copy (Remarked (Downloaded slot image) ∷ older) = LastSnapshot command copy older
 
 -- synchronised right: the copy of each resynchronisation is what its upload command put by last
 abbrev pub SyncedRight : List Entry → Type 0
@@ -77,6 +84,8 @@ SyncedRight (TookReply command reply ∷ older) = SyncedRight older
 SyncedRight (Remarked (TookSnapshot life command database) ∷ older) = SyncedRight older
 SyncedRight (Remarked (TookAlarms life command alarms) ∷ older) = SyncedRight older
 SyncedRight (Remarked (Audited command table notices) ∷ older) = SyncedRight older
+SyncedRight (Remarked (Stored entry) ∷ older) = SyncedRight older
+SyncedRight (Remarked (Downloaded slot image) ∷ older) = SyncedRight older
 SyncedRight (Remarked (Synced command copy) ∷ older) =
     LastSnapshot command copy older × SyncedRight older
 
@@ -93,6 +102,8 @@ LastAlarms command notices table (Remarked (TookAlarms life c alarms) ∷ older)
     ((c ≡ command) × (after alarms notices ≡ table)) ⊎
     ((c ≢ command) × LastAlarms command notices table older)
 LastAlarms command notices table (Remarked (Audited c t waited) ∷ older) = LastAlarms command notices table older
+LastAlarms command notices table (Remarked (Stored entry) ∷ older) = LastAlarms command notices table older
+LastAlarms command notices table (Remarked (Downloaded slot image) ∷ older) = LastAlarms command notices table older
 
 -- audited right: the table of each audit is what its get all alarms command put by last, followed by
 -- the notices that were taken since its reply
@@ -103,5 +114,48 @@ AuditedRight (TookReply command reply ∷ older) = AuditedRight older
 AuditedRight (Remarked (TookSnapshot life command database) ∷ older) = AuditedRight older
 AuditedRight (Remarked (Synced command copy) ∷ older) = AuditedRight older
 AuditedRight (Remarked (TookAlarms life command alarms) ∷ older) = AuditedRight older
+AuditedRight (Remarked (Stored entry) ∷ older) = AuditedRight older
+AuditedRight (Remarked (Downloaded slot image) ∷ older) = AuditedRight older
 AuditedRight (Remarked (Audited command table notices) ∷ older) =
     LastAlarms command notices table older × AuditedRight older
+
+-- this is the image of the slot's last check
+abbrev pub LastChecked : ℕ → List ℕ → List Entry → Type 0
+LastChecked slot image [] = ⊥
+LastChecked slot image (CarriedOut life c r before ∷ older) = LastChecked slot image older
+LastChecked slot image (TookReply c r ∷ older) = LastChecked slot image older
+LastChecked slot image (Remarked (TookSnapshot life c database) ∷ older) = LastChecked slot image older
+LastChecked slot image (Remarked (Synced c copy) ∷ older) = LastChecked slot image older
+LastChecked slot image (Remarked (TookAlarms life c alarms) ∷ older) = LastChecked slot image older
+LastChecked slot image (Remarked (Audited c table notices) ∷ older) = LastChecked slot image older
+LastChecked slot image (Remarked (Stored (Checked s i check)) ∷ older) =
+    ((s ≡ slot) × (i ≡ image)) ⊎ ((s ≢ slot) × LastChecked slot image older)
+LastChecked slot image (Remarked (Stored (CommitBegun s)) ∷ older) = LastChecked slot image older
+LastChecked slot image (Remarked (Stored (Committed s)) ∷ older) = LastChecked slot image older
+LastChecked slot image (Remarked (Downloaded s i) ∷ older) = LastChecked slot image older
+
+-- downloaded right: what the unit checked last for the slot of each download that has ended is the
+-- image, byte for byte
+abbrev pub DownloadedRight : List Entry → Type 0
+DownloadedRight [] = Unit {0}
+DownloadedRight (CarriedOut life command reply before ∷ older) = DownloadedRight older
+DownloadedRight (TookReply command reply ∷ older) = DownloadedRight older
+DownloadedRight (Remarked (TookSnapshot life command database) ∷ older) = DownloadedRight older
+DownloadedRight (Remarked (Synced command copy) ∷ older) = DownloadedRight older
+DownloadedRight (Remarked (TookAlarms life command alarms) ∷ older) = DownloadedRight older
+DownloadedRight (Remarked (Audited command table notices) ∷ older) = DownloadedRight older
+DownloadedRight (Remarked (Stored entry) ∷ older) = DownloadedRight older
+DownloadedRight (Remarked (Downloaded slot image) ∷ older) =
+    LastChecked slot image older × DownloadedRight older
+
+-- what the history says of the unit's store, newest first
+abbrev pub store_history : List Entry → List StoreEntry
+store_history [] = []
+store_history (CarriedOut life command reply before ∷ older) = store_history older
+store_history (TookReply command reply ∷ older) = store_history older
+store_history (Remarked (TookSnapshot life command database) ∷ older) = store_history older
+store_history (Remarked (Synced command copy) ∷ older) = store_history older
+store_history (Remarked (TookAlarms life command alarms) ∷ older) = store_history older
+store_history (Remarked (Audited command table notices) ∷ older) = store_history older
+store_history (Remarked (Stored entry) ∷ older) = entry ∷ store_history older
+store_history (Remarked (Downloaded slot image) ∷ older) = store_history older

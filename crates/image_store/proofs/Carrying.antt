@@ -31,27 +31,28 @@ use Rattle.image_store.specs.declared.state.State.TheVariants as form
 use Rattle.image_store.specs.declared.state.Done.{Done}
 use Rattle.image_store.specs.Stands.{Kept, state_disk, state_broken, SlotsStand, LoadingStands}
 use Rattle.image_store.specs.Stands.{StateStands, StoreStands}
-use Rattle.image_store.specs.Carries.{Changed, Carried, StoreCarried}
+use Rattle.image_store.specs.Carries.{Changed, MakesCalls, CallsWithin, Carried, StoreCarried}
+use Rattle.image_store.proofs.Calling.{makes_none, within_none, calls_none_keeps}
 use Rattle.image_store.proofs.Changing.{changed_none}
 use Rattle.store_laws.proofs.Tests.{cut_none}
 
-pub refusal_keeps : (r : Request) (code : ℕ) → change_of (refuse r code) ≡ Keep
-refusal_keeps (ask.Start window size targets target) code = refl
-refusal_keeps (ask.Section number bytes true) code = refl
-refusal_keeps (ask.Section number bytes false) code = refl
-refusal_keeps (ask.End check size targets target) code = refl
-refusal_keeps (ask.Activate flags) code = refl
-refusal_keeps ask.Commit code = refl
-refusal_keeps (ask.Create values) code = refl
-refusal_keeps ask.Delete code = refl
-refusal_keeps (ask.Set mask values) code = refl
-refusal_keeps (ask.Get mask) code = refl
-refusal_keeps (ask.Alarms mode) code = refl
-refusal_keeps (ask.AlarmsNext number) code = refl
-refusal_keeps ask.Upload code = refl
-refusal_keeps (ask.UploadNext number) code = refl
-refusal_keeps ask.Reset code = refl
-refusal_keeps (ask.Reboot flags) code = refl
+pub refusal_calls : (r : Request) (code : ℕ) → calls_device (refuse r code) ≡ false
+refusal_calls (ask.Start window size targets target) code = refl
+refusal_calls (ask.Section number bytes true) code = refl
+refusal_calls (ask.Section number bytes false) code = refl
+refusal_calls (ask.End check size targets target) code = refl
+refusal_calls (ask.Activate flags) code = refl
+refusal_calls ask.Commit code = refl
+refusal_calls (ask.Create values) code = refl
+refusal_calls ask.Delete code = refl
+refusal_calls (ask.Set mask values) code = refl
+refusal_calls (ask.Get mask) code = refl
+refusal_calls (ask.Alarms mode) code = refl
+refusal_calls (ask.AlarmsNext number) code = refl
+refusal_calls ask.Upload code = refl
+refusal_calls (ask.UploadNext number) code = refl
+refusal_calls ask.Reset code = refl
+refusal_calls (ask.Reboot flags) code = refl
 
 pub told_of : (o : Option (List ℕ)) (bytes : List ℕ) → o ≡ Some bytes → IsSome o
 told_of o bytes is = ap (λ (x : Option (List ℕ)). is_some x) is
@@ -250,9 +251,13 @@ module _ {D : Type 0} (seen : D → Option (List ℕ)) (may_leave : D → List �
         → StateStands seen may_leave room active granted window held (store_done d m)
         → handled ≡ handled_done d → faults (state_disk held) ≡ faults old
         → Changed may_leave clock left_since rig room (change_of d) m.slots old (state_disk held)
+        → MakesCalls room d m (rig old) (rig (state_disk held)) false
+        → CallsWithin room d m (rig old)
         → Carried seen may_leave clock left_since rig faults room active granted window old
         (record { state = held; handled = handled }) d m
-    done room active granted window old held handled d m whole stands is kept changed = record {
+    done room active granted window old held handled d m whole stands is kept changed made within = record {
+      made = made;
+      within = within;
       fails = false;
       stands = stands;
       handled_is = is;
@@ -268,10 +273,14 @@ module _ {D : Type 0} (seen : D → Option (List ℕ)) (may_leave : D → List �
         → calls_device d ≡ true → software ≡ software_of m → IsSome (seen broken.disk)
         → Rose (faults old) (faults broken.disk)
         → Changed may_leave clock left_since rig room (change_of d) m.slots old broken.disk
+        → MakesCalls room d m (rig old) (rig broken.disk) true
+        → CallsWithin room d m (rig old)
         → Carried seen may_leave clock left_since rig faults room active granted window old
         (record { state = form.Broken broken software; handled = handled }) d m
     broke room active granted window old broken software handled d m is whole active_is calls shown told
-        rose changed = record {
+        rose changed made within = record {
+          made = made;
+          within = within;
           fails = true;
           stands = (
             record {
@@ -313,11 +322,13 @@ module _ {D : Type 0} (seen : D → Option (List ℕ)) (may_leave : D → List �
           (handled : Handled) (d : Deed) (m : StoreState)
           → StateStands seen may_leave room active granted window held m
           → StateStands seen may_leave room active next_granted next held (store_done d m)
-          → change_of d ≡ Keep → handled ≡ handled_done d
+          → calls_device d ≡ false → handled ≡ handled_done d
           → Carried seen may_leave clock left_since rig faults room active next_granted next
           (state_disk held) (record { state = held; handled = handled }) d m
-      still room active granted next_granted window next held handled d m stands after keeps is =
+      still room active granted next_granted window next held handled d m stands after quiet is =
           record {
+            made = makes_none room d m (rig (state_disk held)) quiet;
+            within = within_none room d m (rig (state_disk held)) quiet;
             fails = false;
             stands = after;
             handled_is = is;
@@ -325,7 +336,7 @@ module _ {D : Type 0} (seen : D → Option (List ℕ)) (may_leave : D → List �
             cause = refl;
             disk = (
               λ whole. subst (λ (c : Change). Changed may_leave clock left_since rig room c
-                  m.slots (state_disk held) (state_disk held)) (sym keeps)
+                  m.slots (state_disk held) (state_disk held)) (sym (calls_none_keeps d quiet))
                   (same_disk room active granted window held m stands whole),
               λ broken. refl,
             );
@@ -377,7 +388,9 @@ module _ {D : Type 0} (seen : D → Option (List ℕ)) (may_leave : D → List �
             refl,
           ) is refl
           (changed_none may_leave clock left_since rig seen rig_reads cut_counts only_now room
-          slots.disk slots.header m.slots s.room_is s.settled))
+          slots.disk slots.header m.slots s.room_is s.settled)
+          (makes_none room (GiveUp code) m (rig slots.disk) refl)
+          (within_none room (GiveUp code) m (rig slots.disk) refl))
 
 -- a state is the one that a store has
 pub one_state : {D : Type 0} (o : Option (State D)) (a b : State D) → o ≡ Some a → o ≡ Some b
@@ -409,6 +422,8 @@ store_carried seen may_leave clock left_since rig faults old new before did d m 
       before = before;
       before_is = was;
       calls = c.calls;
+      made = c.made;
+      within = c.within;
       cause = c.cause;
       disk = c.disk;
     }

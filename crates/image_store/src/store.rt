@@ -103,6 +103,7 @@ impl<D: Disk> Store<D> {
 
     /// Gives the disk back. A download that runs leaves its slot without an image.
     pub fn unmount(self) -> D
+        ensures some { IsSome self.state }
         ensures disk { (state : State D) → self.state ≡ Some state → result ≡ state_disk state }
     {
         unmount_state(self.state.unwrap())

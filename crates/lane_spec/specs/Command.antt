@@ -1,5 +1,5 @@
 -- A command: a request of the manager to an entity, with the packet that it sends under a TCI and the frames that answer it.
-use Rattle.std.specs.Prelude.{ℕ, ◌+◌, ◌==◌, ◌&&◌, ◌||◌, Bool, true, false, List, [], ◌∷◌}
+use Rattle.std.specs.Prelude.{ℕ, ◌+◌, ◌==◌, ◌&&◌, ◌||◌, Bool, true, false, List, [], ◌∷◌, length}
 use Rattle.omci_types.specs.declared.EntityId.{EntityId}
 use Rattle.omci_types.specs.declared.Frame.{Frame}
 use Rattle.message_spec.specs.declared.Message.TheVariants.{Asked}
@@ -11,11 +11,13 @@ use Rattle.lane_spec.specs.declared.Purpose.{Purpose}
 use Rattle.lane_spec.specs.declared.Purpose.TheVariants as purpose
 
 -- The request that is asked of an entity, and why. A probe is a get of MIB data sync that proves the
--- lane by any answer.
+-- lane by any answer. A window of a download is one command: its request is the window's last
+-- section, before which the earlier ones are sent.
 pub record Command : Type 0 where
   pub purpose : Purpose
   pub entity : EntityId
   pub request : Request
+  pub earlier : List (List ℕ)
 
 -- ONU data, and the mask of its attribute 1, which is MIB data sync
 abbrev pub sync_entity : EntityId
@@ -25,19 +27,29 @@ abbrev pub sync_request : Request
 sync_request = request.Get 0x8000
 
 abbrev pub probe_command : Command
-probe_command = record { purpose = purpose.Probe; entity = sync_entity; request = sync_request }
+probe_command = record { purpose = purpose.Probe; entity = sync_entity; request = sync_request; earlier = [] }
 
 -- a request for an entity, which a caller submits
 abbrev pub ask : EntityId → Request → Command
-ask entity r = record { purpose = purpose.Submission; entity = entity; request = r }
+ask entity r = record { purpose = purpose.Submission; entity = entity; request = r; earlier = [] }
 
 -- a get of MIB data sync, for the counter's sake
 abbrev pub check_command : Command
-check_command = record { purpose = purpose.Check; entity = sync_entity; request = sync_request }
+check_command = record { purpose = purpose.Check; entity = sync_entity; request = sync_request; earlier = [] }
 
 -- a request of the running job
 abbrev pub job_command : EntityId → Request → Command
-job_command entity r = record { purpose = purpose.Job; entity = entity; request = r }
+job_command entity r = record { purpose = purpose.Job; entity = entity; request = r; earlier = [] }
+
+-- a window of the running job's download, by its sections before the last one and the last one
+abbrev pub window_command : EntityId → (earlier : List (List ℕ)) → (last : List ℕ) → Command
+window_command entity earlier last =
+    record {
+      purpose = purpose.Job;
+      entity = entity;
+      request = request.Section (length earlier) last true;
+      earlier = earlier;
+    }
 
 abbrev pub is_probe : Purpose → Bool
 is_probe purpose.Probe = true
@@ -49,9 +61,21 @@ is_probe purpose.Job = false
 unfoldable pub command_frame : ℕ → Command → Frame
 command_frame tci c = plain (Asked tci c.entity c.request)
 
--- the packets that the command sends each time
+-- the packet of a section that isn't its window's last
+unfoldable pub section_packet : (tci : ℕ) → EntityId → (number : ℕ) → List ℕ → List ℕ
+section_packet tci entity number bytes =
+    spelling (plain (Asked tci entity (request.Section number bytes false)))
+
+-- the packets of such sections, the first of which has that number, before other packets
+abbrev pub with_sections : (tci : ℕ) → EntityId → (number : ℕ) → List (List ℕ) → List (List ℕ) → List (List ℕ)
+with_sections tci entity number [] packets = packets
+with_sections tci entity number (bytes ∷ rest) packets =
+    section_packet tci entity number bytes ∷ with_sections tci entity (number + 1) rest packets
+
+-- the packets that the command sends each time, all under one TCI
 abbrev pub command_packets : ℕ → Command → List (List ℕ)
-command_packets tci c = spelling (command_frame tci c) ∷ []
+command_packets tci c =
+    with_sections tci c.entity 0 c.earlier (spelling (command_frame tci c) ∷ [])
 
 abbrev pub same_entity : EntityId → EntityId → Bool
 same_entity a b = (a.class == b.class) && (a.instance == b.instance)
@@ -78,6 +102,6 @@ is_changing (request.Alarms mode) = false
 is_changing (request.AlarmsNext number) = false
 is_changing request.Upload = false
 is_changing (request.UploadNext number) = false
-is_changing (request.Start window size targets target) = false
+is_changing (request.Start window size targets target) = true
 is_changing (request.Section number bytes last) = false
-is_changing (request.End crc size targets target) = false
+is_changing (request.End crc size targets target) = true

@@ -1,5 +1,10 @@
+pub mod Reading
+pub mod Following
 pub mod Deliveries
 pub mod Flows
-pub mod Following
 pub mod Loops
 pub mod Running
+pub mod Units
+pub mod Seconds
+pub mod Powers
+pub mod Asking

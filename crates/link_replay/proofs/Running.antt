@@ -4,11 +4,10 @@ use Rattle.std.proofs.lemmas.List.{append-nil}
 use Rattle.std.specs.Io.KnownBytes.{Appends}
 use Rattle.omci_core.proofs.Streams.{Appends-none, Appends-then}
 use Rattle.script_spec.specs.Script.{Script, Action}
-use Rattle.world_spec.specs.declared.Effect.TheVariants as effect
-use Rattle.world_spec.specs.Ends.{factory_software}
+use Rattle.unit_spec.specs.Onu.{onu_started}
 use Rattle.world_spec.specs.Nodes.{Nodes, step, first_nodes, nodes_after}
-use Rattle.world_spec.specs.Trace.{line_text, turn_text, trace_from, trace}
-use Rattle.link_replay.specs.Seen.{State, seen_of, sound}
+use Rattle.world_spec.specs.Trace.{turn_text, trace_from, trace}
+use Rattle.link_replay.specs.Seen.{State, Stands, WorldStands, life_text}
 use Rattle.link_replay.proofs.Flows.{step_event}
 use Rattle.link_replay.specs.Writing.{WritesSome, WritesFront}
 
@@ -24,29 +23,29 @@ drop_at (x ∷ rest) (suc place) a e =
 -- it is the whole trace
 pub record RunSoFar (s : Script) (place : ℕ) (now : State) (held : List ℕ) (before after : Option (List ℕ)) : Type 0 where
   pub nodes : Nodes
-  pub seen : now.seen ≡ seen_of nodes
-  pub calm : now.spent ≡ false
+  pub stands : WorldStands now nodes
   pub event : nodes.ends.event ≡ place
+  pub count : now.seen.event ≡ place
   pub done : List ℕ
   pub added : Appends before after done
   pub whole : (done ++ held) ++ trace_from (drop place s.actions) nodes ≡ trace s
   pub rest : nodes_after (drop place s.actions) nodes ≡ nodes_after s.actions (first_nodes s.header)
 
 -- before the first event the unit's start line is held
-pub run_starts : (s : Script) (now : State) (lines held : List ℕ) (before : Option (List ℕ)) → now ≡ sound (seen_of (first_nodes s.header)) → lines ≡ [] → held ≡ lines ++ line_text now.seen.ends.event (effect.UnitStarted now.seen.ends.lives now.seen.ends.software) → RunSoFar s 0 now held before before
-unfolding trace
-run_starts s now lines held before now_is lines_is held_is =
-    let held' = held_is
-    ∙ ap (λ (x : State). lines ++ line_text x.seen.ends.event (effect.UnitStarted x.seen.ends.lives x.seen.ends.software)) now_is
-    ∙ ap (λ t. t ++ line_text 0 (effect.UnitStarted 1 (factory_software s.header.factory))) lines_is in
+pub run_starts : (s : Script) (now : State) (lines held : List ℕ) (before : Option (List ℕ)) → WorldStands now (first_nodes s.header) → lines ≡ []
+    → ((n : Nodes) → Stands now.seen n → held ≡ lines ++ life_text n.ends.event n.ends.lives n.ends.unit) → RunSoFar s 0 now held before before
+unfolding trace onu_started
+run_starts s now lines held before stands lines_is held_is =
+    let n = first_nodes s.header in
+    let held' = held_is n stands.stands ∙ ap (λ t. t ++ life_text n.ends.event n.ends.lives n.ends.unit) lines_is in
     record {
-      nodes = first_nodes s.header;
-      seen = ap (λ (x : State). x.seen) now_is;
-      calm = ap (λ (x : State). x.spent) now_is;
+      nodes = n;
+      stands = stands;
       event = refl;
+      count = stands.stands.ends.event_is;
       done = [];
       added = Appends-none before;
-      whole = ap (λ z. z ++ trace_from s.actions (first_nodes s.header)) held';
+      whole = ap (λ z. z ++ trace_from s.actions n) held';
       rest = refl;
     }
 
@@ -59,18 +58,20 @@ unfolding nodes_after
 nodes_end n = refl
 
 -- what one event writes and leaves held follows what was written before it
-pub run_goes_on : (s : Script) (place : ℕ) (a : Action) (now next : State) (held held' : List ℕ) (before middle after : Option (List ℕ)) → RunSoFar s place now held before middle → slice_get s.actions place ≡ Some a → ((n : Nodes) → now.seen ≡ seen_of n → next ≡ sound (seen_of (step a n).nodes)) → ((n : Nodes) → now.seen ≡ seen_of n → WritesSome (held ++ turn_text n (step a n)) middle after held') → RunSoFar s (place + 1) next held' before after
+pub run_goes_on : (s : Script) (place : ℕ) (a : Action) (now next : State) (held held' : List ℕ) (before middle after : Option (List ℕ)) → RunSoFar s place now held before middle → slice_get s.actions place ≡ Some a → ((n : Nodes) → Stands now.seen n → WorldStands next (step a n).nodes) → ((n : Nodes) → Stands now.seen n → WritesSome (held ++ turn_text n (step a n)) middle after held') → RunSoFar s (place + 1) next held' before after
 unfolding trace_from
 run_goes_on s place a now next held held' before middle after so_far here stands writes =
     let n = so_far.nodes in
-    let some = writes n so_far.seen in
+    let now' = so_far.stands.stands in
+    let next' = stands n now' in
+    let some = writes n now' in
     let lines = turn_text n (step a n) in
     let rest = drop (place + 1) s.actions in
     record {
       nodes = (step a n).nodes;
-      seen = ap (λ (x : State). x.seen) (stands n so_far.seen);
-      calm = ap (λ (x : State). x.spent) (stands n so_far.seen);
+      stands = next';
       event = step_event a n ∙ ap (λ k. k + 1) so_far.event;
+      count = next'.stands.ends.event_is ∙ step_event a n ∙ ap (λ k. k + 1) so_far.event;
       done = so_far.done ++ some.done;
       added = Appends-then before middle after so_far.done some.done so_far.added some.added;
       whole =
@@ -82,11 +83,11 @@ run_goes_on s place a now next held held' before middle after so_far here stands
     }
 
 -- a front of what is held and of the next event's lines is a front of the trace
-pub run_breaks_off : (s : Script) (place : ℕ) (a : Action) (now : State) (held : List ℕ) (before middle after : Option (List ℕ)) → RunSoFar s place now held before middle → slice_get s.actions place ≡ Some a → ((n : Nodes) → now.seen ≡ seen_of n → WritesFront (held ++ turn_text n (step a n)) middle after) → WritesFront (trace s) before after
+pub run_breaks_off : (s : Script) (place : ℕ) (a : Action) (now : State) (held : List ℕ) (before middle after : Option (List ℕ)) → RunSoFar s place now held before middle → slice_get s.actions place ≡ Some a → ((n : Nodes) → Stands now.seen n → WritesFront (held ++ turn_text n (step a n)) middle after) → WritesFront (trace s) before after
 unfolding trace_from
 run_breaks_off s place a now held before middle after so_far here fronts =
     let n = so_far.nodes in
-    let front = fronts n so_far.seen in
+    let front = fronts n so_far.stands.stands in
     let lines = turn_text n (step a n) in
     let rest = trace_from (drop (place + 1) s.actions) (step a n).nodes in (
       so_far.done ++ front.0,
@@ -123,10 +124,10 @@ run_ends_early s now held before middle after so_far front =
     )
 
 -- at the end the world stands for the nodes after all events
-pub run_stands : (s : Script) (now : State) (held : List ℕ) (before after : Option (List ℕ)) → RunSoFar s (length s.actions) now held before after → now ≡ sound (seen_of (nodes_after s.actions (first_nodes s.header)))
+pub run_stands : (s : Script) (now : State) (held : List ℕ) (before after : Option (List ℕ)) → RunSoFar s (length s.actions) now held before after → WorldStands now (nodes_after s.actions (first_nodes s.header))
 run_stands s now held before after so_far =
-    let whole = sym (nodes_end so_far.nodes) ∙ ap (λ actions. nodes_after actions so_far.nodes) (sym (no_more s.actions)) ∙ so_far.rest in
-    ap (λ b. record { spent = b; seen = now.seen }) so_far.calm ∙ ap sound so_far.seen ∙ ap (λ n. sound (seen_of n)) whole
+    subst (λ (n : Nodes). WorldStands now n)
+    (sym (nodes_end so_far.nodes) ∙ ap (λ actions. nodes_after actions so_far.nodes) (sym (no_more s.actions)) ∙ so_far.rest) so_far.stands
 
 -- nothing that was written is a front of any text
 pub nothing_written : (text : List ℕ) (before : Option (List ℕ)) → WritesFront text before before

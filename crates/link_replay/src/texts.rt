@@ -3,12 +3,12 @@
 ghost use Rattle.std.specs.Prelude.{◌≡◌, ◌++◌, ◌≤◌, List, length, OnOk, codes, decimal, Option};
 ghost use Rattle.manager_spec.specs.declared.Report.TheVariants as report;
 ghost use Rattle.world_spec.specs.declared.Effect.TheVariants as effect;
-ghost use Rattle.world_spec.specs.Trace.{line_text, effect_text, slot_text, refusal_text, report_text, note_text, phase_text, job_text, reason_text, audit_reason_text, gap_text, tci_text, entity_text, hex_text, entry_text, entry_line, row_text, row_line, direction_text, lane_text};
+ghost use Rattle.world_spec.specs.Trace.{line_text, effect_text, slot_text, refusal_text, report_text, note_text, phase_text, job_text, reason_text, audit_reason_text, image_reason_text, boot_text, gap_text, tci_text, entity_text, hex_text, entry_text, entry_line, row_text, row_line, direction_text, lane_text};
 
 use link_spec::Direction;
-use manager_spec::{AuditReason, Job, Phase, Refusal, Report, ResyncReason};
+use manager_spec::{AuditReason, ImageReason, Job, Phase, Refusal, Report, ResyncReason};
 use omci_contents::{push_bytes, push_contents_text, push_hex, push_number, push_tci, push_text};
-use omci_core::{EntityId, NoMemory, Priority, SlotView, Software};
+use omci_core::{Boot, EntityId, NoMemory, Priority, SlotView, Software};
 use omci_frames::Frame;
 use unit_spec::Note;
 use world_spec::Effect;
@@ -115,6 +115,7 @@ fn push_job(out: &mut Vec<u8>, job: Job) -> Result<(), NoMemory>
     match job {
         Job::Resync => push_bytes(out, b"resync"),
         Job::Audit => push_bytes(out, b"audit"),
+        Job::Image => push_bytes(out, b"image"),
     }
 }
 
@@ -189,6 +190,16 @@ fn push_audit_reason(out: &mut Vec<u8>, reason: AuditReason) -> Result<(), NoMem
     }
 }
 
+/// Appends why a download failed.
+fn push_image_reason(out: &mut Vec<u8>, reason: ImageReason) -> Result<(), NoMemory>
+    ensures text { OnOk result (out.new.items ≡ out.old.items ++ image_reason_text reason) }
+{
+    match reason {
+        ImageReason::GaveUp { tci } => push_tci_after(out, b"gave-up ", tci),
+        ImageReason::Code { code } => push_one(out, b"code ", code.0 as u64),
+    }
+}
+
 /// Appends why a command was not submitted.
 fn push_refusal(out: &mut Vec<u8>, refusal: Refusal) -> Result<(), NoMemory>
     ensures text { OnOk result (out.new.items ≡ out.old.items ++ refusal_text refusal) }
@@ -254,6 +265,12 @@ fn push_report(out: &mut Vec<u8>, report: &Report) -> Result<(), NoMemory>
             push_bytes(out, b"audit failed ")?;
             push_audit_reason(out, *reason)
         }
+        Report::ImageDone { slot } => push_one(out, b"image done ", *slot as u64),
+        Report::ImageFailed { reason } => {
+            push_bytes(out, b"image failed ")?;
+            push_image_reason(out, *reason)
+        }
+        Report::Busy { times } => push_one(out, b"busy ", *times as u64),
         Report::AlarmTaken { number } => push_one(out, b"notice ", *number as u64),
         Report::AlarmRepeat { number } => push_one(out, b"repeat ", *number as u64),
         Report::AlarmGap { want, have } => push_gap(out, *want, *have),
@@ -261,6 +278,16 @@ fn push_report(out: &mut Vec<u8>, report: &Report) -> Result<(), NoMemory>
         Report::AlarmUnaudited { number } => push_one(out, b"unaudited ", *number as u64),
         Report::Change { notice } => push_change(out, notice),
         Report::Dropped => push_bytes(out, b"dropped"),
+    }
+}
+
+/// Appends how a unit starts again.
+fn push_boot(out: &mut Vec<u8>, boot: Boot) -> Result<(), NoMemory>
+    ensures text { OnOk result (out.new.items ≡ out.old.items ++ boot_text boot) }
+{
+    match boot {
+        Boot::PowerUp => push_bytes(out, b"power-up"),
+        Boot::Activated(slot) => push_one(out, b"activate ", slot as u64),
     }
 }
 
@@ -273,6 +300,16 @@ fn push_note(out: &mut Vec<u8>, note: Note) -> Result<(), NoMemory>
             push_two(out, b"snapshot ", entities as u64, counter as u64)
         }
         Note::Alarms { rows } => push_one(out, b"alarms ", rows as u64),
+        Note::Sealed { slot, length, crc } => {
+            push_two(out, b"sealed ", slot as u64, length as u64)?;
+            push_bytes(out, b" ")?;
+            push_hex(out, crc.to_be_bytes().as_slice())
+        }
+        Note::Committed { slot } => push_one(out, b"committed ", slot as u64),
+        Note::Leaving { boot } => {
+            push_bytes(out, b"leaving ")?;
+            push_boot(out, boot)
+        }
     }
 }
 
@@ -294,7 +331,9 @@ fn push_effect(out: &mut Vec<u8>, effect: &Effect) -> Result<(), NoMemory>
         }
         Effect::Noted(note) => push_note(out, *note),
         Effect::Kept => push_bytes(out, b"kept"),
+        Effect::Held => push_bytes(out, b"held"),
         Effect::Dropped => push_bytes(out, b"dropped"),
+        Effect::Cut => push_bytes(out, b"cut"),
         Effect::Refused(refusal) => {
             push_bytes(out, b"refused ")?;
             push_refusal(out, *refusal)

@@ -1,32 +1,26 @@
 //! The world as its callers hold it.
 
-ghost use Rattle.std.specs.Prelude.{◌≡◌, ◌+◌, ◌<◌, ◌^◌, ◌++◌, true, OnOk, OnErr, IfOk, IfErr};
+ghost use Rattle.std.specs.Prelude.{◌≡◌, ◌+◌, ◌<◌, ◌^◌, ◌++◌, None, true, OnOk, OnErr, IfOk, IfErr};
 ghost use Rattle.std.specs.Io.KnownBytes.{Appends};
 ghost use Rattle.script_spec.specs.Script.{IsAction, IsHeader};
 ghost use Rattle.link_spec.specs.Link.{Link};
 ghost use Rattle.link_spec.specs.Held.{held_of};
-ghost use Rattle.world_spec.specs.Nodes.{Nodes, first_nodes, delivery, acted, step, nodes_after};
-ghost use Rattle.world_spec.specs.Trace.{line_text, turn_text, trace};
+ghost use Rattle.world_spec.specs.Ends.{Ends};
+ghost use Rattle.world_spec.specs.Nodes.{Nodes, first_nodes, acted, step, nodes_after};
+ghost use Rattle.world_spec.specs.Trace.{turn_text, trace};
 ghost use Rattle.link_replay.specs.Writing.{WritesSome, WritesFront, EndsRun};
-ghost use Rattle.world_spec.specs.declared.Effect.TheVariants as effect;
 ghost use Rattle.replay_script.specs.Events.{action_of, header_of};
-ghost use Rattle.link_replay.specs.Seen.{shown, followed, sound, seen_of};
+ghost use Rattle.link_replay.specs.Seen.{Stands, WorldStands, EndsStand, Follows, life_text, asked_by as asked_of};
 
+use crate::asked::asked_by;
 use crate::lines::Lines;
-use crate::machine::{Machine, Outbox};
+use crate::machine::{Machine, Order, Outbox};
 use crate::writing::{RunFault, write_all, write_piece};
 use link_spec::Direction;
-use omci_contents::Request;
-use omci_core::{EntityId, NoMemory, Sink, filled};
+use omci_core::{NoMemory, Sink, filled};
 use replay_script::{Event, Header, Script};
 use std::alloc::Global;
 use std::marker::Model;
-
-/// The entity that a reset names.
-const ONU_DATA: EntityId = EntityId {
-    class: 2,
-    instance: 0,
-};
 
 /// Both ends over a simulated link. [`step`](World::step) and [`run`](World::run) alone change it. Where memory runs out in one
 /// of them, the world is spent: each later call of them answers `NoMemory`.
@@ -47,51 +41,53 @@ impl Model for World {
 
 impl Machine {
     /// Does what an event asks for.
-    #[tactic(auto, unfolding(world_spec::specs::Nodes::acted))]
     fn act(&mut self, event: &Event, outbox: &mut Outbox, out: &mut Vec<u8>) -> Result<(), NoMemory>
         requires ranges { IsAction (action_of event.now) }
-        ensures follows { OnOk result ((l : Link) → self.old.held ≡ held_of l → shown self.new out.new.items
-            ≡ followed (acted (action_of event.now) (record { ends = self.old.ends; link = l })) self.old out.old.items) }
+        ensures follows { OnOk result ((e : Ends) → EndsStand self.old e → (l : Link) → self.old.held ≡ held_of l
+            → Follows (acted (action_of event.now) (record { ends = e; link = l })) e self.old self.new out.old.items out.new.items) }
+    {
+        match asked_by(event) {
+            Some(asked) => self.submit(&asked, outbox, out)?,
+            None => self.act_apart(event, outbox, out)?,
+        }
+        Ok(())
+    }
+
+    /// Does what an event asks for that submits no request.
+    #[tactic(auto, unfolding(world_spec::specs::Nodes::acted))]
+    fn act_apart(
+        &mut self,
+        event: &Event,
+        outbox: &mut Outbox,
+        out: &mut Vec<u8>,
+    ) -> Result<(), NoMemory>
+        requires ranges { IsAction (action_of event.now) }
+        requires apart { asked_of (action_of event.now) ≡ None }
+        ensures follows { OnOk result ((e : Ends) → EndsStand self.old e → (l : Link) → self.old.held ≡ held_of l
+            → Follows (acted (action_of event.now) (record { ends = e; link = l })) e self.old self.new out.old.items out.new.items) }
     {
         match event {
             Event::Probe { lane } => self.probe(*lane, outbox, out)?,
-            Event::Reset { lane } => self.submit(*lane, ONU_DATA, Request::Reset, outbox, out)?,
-            Event::Get { lane, entity, mask } => {
-                let request = Request::Get { mask: *mask };
-                self.submit(*lane, *entity, request, outbox, out)?;
-            }
-            Event::Create {
-                lane,
-                entity,
-                values,
-            } => {
-                let values = filled(values.bytes());
-                self.submit(*lane, *entity, Request::Create { values }, outbox, out)?;
-            }
-            Event::Set {
-                lane,
-                entity,
-                mask,
-                values,
-            } => {
-                let values = filled(values.bytes());
-                let request = Request::Set {
-                    mask: *mask,
-                    values,
-                };
-                self.submit(*lane, *entity, request, outbox, out)?;
-            }
-            Event::Delete { lane, entity } => {
-                self.submit(*lane, *entity, Request::Delete, outbox, out)?;
-            }
             Event::Resync => self.resync(outbox, out)?,
             Event::Audit => self.audit(outbox, out)?,
             Event::Check => self.check(outbox, out)?,
+            Event::Image {
+                slot,
+                window,
+                crc,
+                image,
+            } => self.image(
+                &Order::new(*slot, *window, *crc),
+                image.bytes(),
+                outbox,
+                out,
+            )?,
             Event::Deliver { packet } => self.deliver_there(*packet, outbox, out)?,
             Event::Flow { times } => self.flow(*times, outbox, out)?,
-            Event::NoiseUnit { bytes } => {
-                self.noise(Direction::Down, bytes.bytes(), outbox, out)?;
+            Event::CutIn { packet, call, pick } => {
+                self.cut_in_there(*packet, *call, *pick, outbox, out)?;
             }
+            Event::NoiseUnit { bytes } => self.noise(Direction::Down, bytes.bytes(), outbox, out)?,
             Event::NoiseOlt { bytes } => self.noise(Direction::Up, bytes.bytes(), outbox, out)?,
             Event::Tick => self.second(outbox, out)?,
             Event::Sense {
@@ -106,26 +102,11 @@ impl Machine {
             Event::CutOlt => self.cut_manager(out)?,
             Event::StartUnit => self.start_unit(out)?,
             Event::StartOlt { low, high } => self.start_manager(*low, *high, out)?,
+            _ => {}
         }
         Ok(())
     }
 
-    /// The packet of that number is delivery, where it may come from the link that this is held of.
-    fn deliver_there(
-        &mut self,
-        number: u64,
-        outbox: &mut Outbox,
-        out: &mut Vec<u8>,
-    ) -> Result<(), NoMemory>
-        ensures follows { OnOk result ((l : Link) → self.old.held ≡ held_of l → shown self.new out.new.items
-            ≡ followed (delivery number (record { ends = self.old.ends; link = l })) self.old out.old.items) }
-    {
-        self.deliver(number, outbox, out)?;
-        Ok(())
-    }
-}
-
-impl Machine {
     /// Runs one event: it is counted, and what it asks for is done.
     fn turn(
         &mut self,
@@ -133,10 +114,10 @@ impl Machine {
         outbox: &mut Outbox,
         out: &mut Vec<u8>,
     ) -> Result<(), NoMemory>
-        requires few { self.old.ends.event + 1 < 2 ^ 64 }
+        requires few { self.old.event + 1 < 2 ^ 64 }
         requires ranges { IsAction (action_of event.now) }
-        ensures nodes { OnOk result ((n : Nodes) → self.old ≡ seen_of n → self.new ≡ seen_of (step (action_of event.now) n).nodes) }
-        ensures lines { OnOk result ((n : Nodes) → self.old ≡ seen_of n
+        ensures nodes { OnOk result ((n : Nodes) → Stands self.old n → Stands self.new (step (action_of event.now) n).nodes) }
+        ensures lines { OnOk result ((n : Nodes) → Stands self.old n
             → out.new.items ≡ out.old.items ++ turn_text n (step (action_of event.now) n)) }
     {
         self.event += 1;
@@ -149,7 +130,7 @@ impl World {
     /// Both ends as a script's header starts them, over an empty link.
     pub fn new(alloc: Global, header: &Header) -> Result<World, NoMemory>
         requires ranges { IsHeader (header_of header.now) }
-        ensures first { IfOk result (λ w. w ≡ sound (seen_of (first_nodes (header_of header.now)))) }
+        ensures first { IfOk result (λ w. WorldStands w (first_nodes (header_of header.now))) }
     {
         Ok(World {
             spent: false,
@@ -160,27 +141,28 @@ impl World {
 
     /// How many events were run.
     pub fn events(&self) -> u64
-        ensures value { result ≡ self.now.seen.ends.event }
+        ensures value { result ≡ self.now.seen.event }
     {
         self.machine.event
     }
 
-    /// Appends the line of the unit's present life: which slots are active and committed, and what they hold.
+    /// Appends the line of the unit's present life, where it is on: which slots are active and committed, and what they hold.
     pub fn start_line(&self, out: &mut Lines) -> Result<(), NoMemory>
-        ensures line { OnOk result (out.new ≡ out.old ++ line_text self.now.seen.ends.event
-            (effect.UnitStarted self.now.seen.ends.lives self.now.seen.ends.software)) }
+        ensures line { OnOk result ((n : Nodes) → Stands self.now.seen n
+            → out.new ≡ out.old ++ life_text n.ends.event n.ends.lives n.ends.unit) }
     {
-        self.machine.start_line(&mut out.text)
+        self.machine.start_line(&mut out.text)?;
+        Ok(())
     }
 
     /// Runs one event, and appends its lines. For all nodes that the world stands for before, it stands for those after the event's
     /// step afterwards.
     pub fn step(&mut self, event: &Event, out: &mut Lines) -> Result<(), NoMemory>
-        requires few { self.old.seen.ends.event + 1 < 2 ^ 64 }
+        requires few { self.old.seen.event + 1 < 2 ^ 64 }
         requires ranges { IsAction (action_of event.now) }
-        ensures nodes { OnOk result ((n : Nodes) → self.old.seen ≡ seen_of n
-            → self.new ≡ sound (seen_of (step (action_of event.now) n).nodes)) }
-        ensures lines { OnOk result ((n : Nodes) → self.old.seen ≡ seen_of n
+        ensures nodes { OnOk result ((n : Nodes) → Stands self.old.seen n
+            → WorldStands self.new (step (action_of event.now) n).nodes) }
+        ensures lines { OnOk result ((n : Nodes) → Stands self.old.seen n
             → out.new ≡ out.old ++ turn_text n (step (action_of event.now) n)) }
         ensures spent { self.old.spent ≡ true → OnOk result ⊥ }
         ensures spends { OnErr result (self.new.spent ≡ true) }
@@ -204,14 +186,14 @@ impl World {
         lines: &mut Lines,
         sink: &mut K,
     ) -> Result<(), RunFault>
-        requires few { self.old.seen.ends.event + 1 < 2 ^ 64 }
+        requires few { self.old.seen.event + 1 < 2 ^ 64 }
         requires ranges { IsAction (action_of event.now) }
-        ensures nodes { OnOk result ((n : Nodes) → self.old.seen ≡ seen_of n
-            → self.new ≡ sound (seen_of (step (action_of event.now) n).nodes)) }
-        ensures written { OnOk result ((n : Nodes) → self.old.seen ≡ seen_of n → WritesSome
+        ensures nodes { OnOk result ((n : Nodes) → Stands self.old.seen n
+            → WorldStands self.new (step (action_of event.now) n).nodes) }
+        ensures written { OnOk result ((n : Nodes) → Stands self.old.seen n → WritesSome
             (lines.old ++ turn_text n (step (action_of event.now) n)) (K.written sink.old) (K.written sink.new) lines.new) }
         ensures kept { OnOk result (K.faults sink.new ≡ K.faults sink.old) }
-        ensures front { OnErr result ((n : Nodes) → self.old.seen ≡ seen_of n → WritesFront
+        ensures front { OnErr result ((n : Nodes) → Stands self.old.seen n → WritesFront
             (lines.old ++ turn_text n (step (action_of event.now) n)) (K.written sink.old) (K.written sink.new)) }
         ensures cause { IfErr result (λ e. EndsRun e (K.faults sink.old) (K.faults sink.new)) }
     {
@@ -223,9 +205,9 @@ impl World {
     /// Runs all events of a script, and writes the trace. The world must be as [`new`](World::new) made it of the script's header.
     /// After a fault a front of the trace was written; `Write` where the sink failed.
     pub fn run<K: Sink>(&mut self, script: &Script, sink: &mut K) -> Result<(), RunFault>
-        requires begun { self.old ≡ sound (seen_of (first_nodes script.now.header)) }
+        requires begun { WorldStands self.old (first_nodes script.now.header) }
         ensures traced { OnOk result (Appends (K.written sink.old) (K.written sink.new) (trace script.now)) }
-        ensures nodes { OnOk result (self.new ≡ sound (seen_of (nodes_after script.now.actions (first_nodes script.now.header)))) }
+        ensures nodes { OnOk result (WorldStands self.new (nodes_after script.now.actions (first_nodes script.now.header))) }
         ensures kept { OnOk result (K.faults sink.new ≡ K.faults sink.old) }
         ensures front { OnErr result (WritesFront (trace script.now) (K.written sink.old) (K.written sink.new)) }
         ensures cause { IfErr result (λ e. EndsRun e (K.faults sink.old) (K.faults sink.new)) }

@@ -13,7 +13,7 @@ use Rattle.alarm_spec.specs.Table.{Table, take_answer, after_take, begun, gather
 use Rattle.manager_spec.specs.declared.AuditReason.{AuditReason}
 use Rattle.manager_spec.specs.declared.AuditReason.TheVariants as reason
 use Rattle.manager_spec.specs.declared.Report.TheVariants as report
-use Rattle.manager_spec.specs.Manager.{Stage, Probing, Asking, Gathering, AskingAlarms, GatheringRows, Manager, Outcome, with_report, sends_nothing}
+use Rattle.manager_spec.specs.Manager.{Stage, Probing, Asking, Gathering, AskingAlarms, GatheringRows, StartingImage, SendingImage, EndingImage, DelayingEnd, Manager, Outcome, with_report, sends_nothing}
 use Rattle.manager_spec.specs.Resync.{with_job}
 
 abbrev pub with_table : Table → Manager → Manager
@@ -65,6 +65,10 @@ audit_lost (Some Asking) why m = m
 audit_lost (Some (Gathering expected next copy)) why m = m
 audit_lost (Some AskingAlarms) why m = audit_failed why m
 audit_lost (Some (GatheringRows expected next)) why m = audit_failed why m
+audit_lost (Some (StartingImage order asked image)) why m = m
+audit_lost (Some (SendingImage order outgoing resent)) why m = m
+audit_lost (Some (EndingImage order image busy)) why m = m
+audit_lost (Some (DelayingEnd order image busy)) why m = m
 
 -- the manager took that notice of the entity
 abbrev pub notice_taken : EntityId → List ℕ → Manager → Outcome

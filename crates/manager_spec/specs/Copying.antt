@@ -17,7 +17,7 @@ abbrev pub grown_unless : Bool → Copy → Copy
 grown_unless true copy = copy
 grown_unless false copy = copy_grown copy
 
--- a commit counts where the manager is in step
+-- a commit, and a download's start and end, count where the manager is in step
 abbrev pub grown_in_step : Phase → Copy → Copy
 grown_in_step phase.InStep copy = copy_grown copy
 grown_in_step phase.New copy = copy
@@ -38,13 +38,17 @@ copy_after p one (request.Alarms mode) copy = copy
 copy_after p one (request.AlarmsNext number) copy = copy
 copy_after p one request.Upload copy = copy
 copy_after p one (request.UploadNext number) copy = copy
-copy_after p one (request.Start window size targets target) copy = copy
+copy_after p one (request.Start window size targets target) copy = grown_in_step p copy
 copy_after p one (request.Section number bytes last) copy = copy
-copy_after p one (request.End crc size targets target) copy = copy
+copy_after p one (request.End crc size targets target) copy = grown_in_step p copy
 
 abbrev pub followed_if : Bool → EntityId → Request → Manager → Manager
 followed_if true one r m = record m { copy = option_map (copy_after m.phase one r) m.copy }
 followed_if false one r m = m
+
+-- the copy follows a request that only counts: a commit, or the start or the end of a download
+unfoldable pub counted_in_step : Manager → Manager
+counted_in_step m = record m { copy = option_map (grown_in_step m.phase) m.copy }
 
 -- the copy follows a request for an entity that was answered by this code
 unfoldable pub followed : EntityId → Request → (code : ℕ) → Manager → Manager

@@ -4,4 +4,5 @@ pub mod Resync
 pub mod Audit
 pub mod Jobs
 pub mod Submitting
+pub mod Upgrade
 pub mod Steps

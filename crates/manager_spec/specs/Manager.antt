@@ -6,6 +6,7 @@ use Rattle.omci_types.specs.declared.Priority.TheVariants.{Low, High}
 use Rattle.upload_spec.specs.Pieces.{Copy}
 use Rattle.alarm_spec.specs.Alarms.{Alarm}
 use Rattle.alarm_spec.specs.Table.{Table, new_table}
+use Rattle.window_spec.specs.Outgoing.{Outgoing}
 use Rattle.lane_spec.specs.Command.{Command, command_packets}
 use Rattle.lane_spec.specs.Lane.{Lane, new_lane, next_tci, with_command}
 use Rattle.manager_spec.specs.declared.Phase.{Phase}
@@ -13,7 +14,12 @@ use Rattle.manager_spec.specs.declared.Phase.TheVariants as phase
 use Rattle.manager_spec.specs.declared.Report.{Report}
 use Rattle.manager_spec.specs.declared.Report.TheVariants as report
 
--- how far a resynchronisation or an audit has come
+-- what is said of a download: the slot that the image is for, and the check value that is given
+pub record Order : Type 0 where
+  pub slot : ℕ
+  pub check : ℕ
+
+-- how far a resynchronisation, an audit or a download has come
 pub data Stage : Type 0 where
   -- it waits for the probes of these lanes
   Probing : (high low : Bool) → Stage
@@ -25,6 +31,14 @@ pub data Stage : Type 0 where
   AskingAlarms : Stage
   -- of so many rows that one comes next, and the table gathers them
   GatheringRows : (expected next : ℕ) → Stage
+  -- it waits for the reply that grants a download, for which windows of so many sections were asked
+  StartingImage : (order : Order) (asked : ℕ) (image : List ℕ) → Stage
+  -- this window of the image is sent, anew for the so-manieth time
+  SendingImage : (order : Order) (outgoing : Outgoing) (resent : ℕ) → Stage
+  -- all of the image was taken, and the download's end is sent; so often it was answered busy
+  EndingImage : (order : Order) (image : List ℕ) (busy : ℕ) → Stage
+  -- the end is sent anew with the next second
+  DelayingEnd : (order : Order) (image : List ℕ) (busy : ℕ) → Stage
 
 -- the two lanes, the phase, the copy of the last resynchronisation with the changes since, the table
 -- of alarms, the stage of the job that runs, and the reports that wait to be taken out, oldest first

@@ -11,7 +11,7 @@ use Rattle.manager_spec.specs.declared.Phase.TheVariants as phase
 use Rattle.manager_spec.specs.declared.ResyncReason.{ResyncReason}
 use Rattle.manager_spec.specs.declared.ResyncReason.TheVariants as reason
 use Rattle.manager_spec.specs.declared.Report.TheVariants as report
-use Rattle.manager_spec.specs.Manager.{Stage, Probing, Asking, Gathering, AskingAlarms, GatheringRows, Manager, with_report, step_lost}
+use Rattle.manager_spec.specs.Manager.{Stage, Probing, Asking, Gathering, AskingAlarms, GatheringRows, StartingImage, SendingImage, EndingImage, DelayingEnd, Manager, with_report, step_lost}
 
 abbrev pub with_job : Option Stage → Manager → Manager
 with_job job m = record m { job = job }
@@ -47,6 +47,10 @@ probe_answered lane Asking = Asking
 probe_answered lane (Gathering expected next copy) = Gathering expected next copy
 probe_answered lane AskingAlarms = AskingAlarms
 probe_answered lane (GatheringRows expected next) = GatheringRows expected next
+probe_answered lane (StartingImage order asked image) = StartingImage order asked image
+probe_answered lane (SendingImage order outgoing resent) = SendingImage order outgoing resent
+probe_answered lane (EndingImage order image busy) = EndingImage order image busy
+probe_answered lane (DelayingEnd order image busy) = DelayingEnd order image busy
 
 abbrev pub gather_unless_all : Bool → (expected next : ℕ) → Copy → Manager → Manager
 gather_unless_all true expected next copy m = all_gathered copy m

@@ -15,6 +15,7 @@ use Rattle.frame_spec.specs.Baseline.{packet_frame}
 use Rattle.tci_spec.specs.Tci.{priority_of}
 use Rattle.upload_spec.specs.Pieces.{Copy}
 use Rattle.upload_spec.specs.Copies.{copy_counter}
+use Rattle.window_spec.specs.Outgoing.{Outgoing}
 use Rattle.lane_spec.specs.declared.LaneTick.{LaneTick}
 use Rattle.lane_spec.specs.declared.LaneTick.TheVariants.{Quiet, Repeat, GaveUp}
 use Rattle.lane_spec.specs.declared.Purpose.{Purpose}
@@ -22,11 +23,12 @@ use Rattle.lane_spec.specs.declared.Purpose.TheVariants as purpose
 use Rattle.lane_spec.specs.Command.{Command}
 use Rattle.lane_spec.specs.Lane.{Lane, Waiting, lane_tick, lane_reply, is_changed_by, waiting_packets}
 use Rattle.manager_spec.specs.declared.Report.TheVariants as report
-use Rattle.manager_spec.specs.Manager.{Stage, Probing, Asking, Gathering, AskingAlarms, GatheringRows, Manager, Outcome, lane_in, with_lane, with_report, leave_step, sends_nothing, and_then}
+use Rattle.manager_spec.specs.Manager.{Stage, Probing, Asking, Gathering, AskingAlarms, GatheringRows, StartingImage, SendingImage, EndingImage, DelayingEnd, Order, Manager, Outcome, lane_in, with_lane, with_report, leave_step, sends_nothing, and_then}
 use Rattle.manager_spec.specs.Copying.{followed}
 use Rattle.manager_spec.specs.Resync.{with_job, probe_answered, gather_on, piece_came}
 use Rattle.manager_spec.specs.Audit.{audit_begun, row_came, notice_came}
-use Rattle.manager_spec.specs.Jobs.{waits_for, job_lost, job_goes_on}
+use Rattle.manager_spec.specs.Upgrade.{image_started, window_answered, end_answered}
+use Rattle.manager_spec.specs.Jobs.{waits_for, job_lost, job_goes_on, job_resumes}
 
 -- ---- what a reply says
 
@@ -138,6 +140,23 @@ abbrev pub row_by_reply : Option Response → (expected next : ℕ) → Frame �
 row_by_reply (Some (response.AlarmsNext row)) expected next f m = row_came expected next row m
 row_by_reply _ expected next f m = freed f m
 
+-- the reply that grants a download
+abbrev pub start_by_reply : Option Response → Order → (asked : ℕ) → List ℕ → Frame → Manager → Manager
+start_by_reply (Some (response.Start code window)) order asked image f m =
+    image_started code.0 window order asked image m
+start_by_reply _ order asked image f m = freed f m
+
+-- the reply to a window
+abbrev pub window_by_reply : Option Response → Order → Outgoing → (resent : ℕ) → Frame → Manager → Manager
+window_by_reply (Some (response.Section code number)) order outgoing resent f m =
+    window_answered code.0 order outgoing resent m
+window_by_reply _ order outgoing resent f m = freed f m
+
+-- the reply to a download's end
+abbrev pub end_by_reply : Option Response → Order → List ℕ → (busy : ℕ) → Frame → Manager → Manager
+end_by_reply (Some (response.End code)) order image busy f m = end_answered code.0 order image busy m
+end_by_reply _ order image busy f m = freed f m
+
 -- the reply that the job waits for
 abbrev pub job_by : Option Stage → Option Response → Frame → Manager → Manager
 job_by None r f m = freed f m
@@ -146,6 +165,11 @@ job_by (Some Asking) r f m = upload_by r f m
 job_by (Some (Gathering expected next copy)) r f m = piece_by_reply r expected next copy f m
 job_by (Some AskingAlarms) r f m = alarms_by r f m
 job_by (Some (GatheringRows expected next)) r f m = row_by_reply r expected next f m
+job_by (Some (StartingImage order asked image)) r f m = start_by_reply r order asked image f m
+job_by (Some (SendingImage order outgoing resent)) r f m =
+    window_by_reply r order outgoing resent f m
+job_by (Some (EndingImage order image busy)) r f m = end_by_reply r order image busy f m
+job_by (Some (DelayingEnd order image busy)) r f m = freed f m
 
 abbrev pub job_taken : Priority → Frame → Manager → Outcome
 job_taken lane f m = with_taken lane (job_by m.job (response_of f) f m)
@@ -223,5 +247,9 @@ tick_lane lane m =
     lane_ticked t.tick lane (lane_in lane m).outstanding t.lane m
 
 -- the high lane, then the low lane
+abbrev pub tick_lanes : Manager → Outcome
+tick_lanes m = and_then (tick_lane High m) (tick_lane Low)
+
+-- both lanes, and then the job
 unfoldable pub after_tick : Manager → Outcome
-after_tick m = and_then (tick_lane High m) (tick_lane Low)
+after_tick m = and_then (tick_lanes m) job_resumes

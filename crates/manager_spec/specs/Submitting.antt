@@ -1,6 +1,7 @@
--- What is asked of the manager: probes, submissions, checks, resynchronisations and audits, and when each is refused.
-use Rattle.std.specs.Prelude.{Bool, true, false, if◌then◌else◌, List, [], ◌∷◌, Option, Some, None}
+-- What is asked of the manager: probes, submissions, checks, resynchronisations, audits and downloads, and when each is refused.
+use Rattle.std.specs.Prelude.{ℕ, Bool, true, false, if◌then◌else◌, List, [], ◌∷◌, Option, Some, None}
 use Rattle.omci_types.specs.declared.EntityId.{EntityId}
+use Rattle.frame_spec.specs.Checksum.{crc}
 use Rattle.omci_types.specs.declared.Priority.{Priority}
 use Rattle.omci_types.specs.declared.Priority.TheVariants.{Low, High}
 use Rattle.message_spec.specs.declared.Request.{Request}
@@ -11,8 +12,9 @@ use Rattle.manager_spec.specs.declared.Phase.{Phase}
 use Rattle.manager_spec.specs.declared.Phase.TheVariants as phase
 use Rattle.manager_spec.specs.declared.Refusal.{Refusal}
 use Rattle.manager_spec.specs.declared.Refusal.TheVariants.{Unproven, Occupied, OutOfStep, JobRunning, ChangeOutstanding}
-use Rattle.manager_spec.specs.Manager.{Stage, Probing, AskingAlarms, Manager, Outcome, lane_in, other_lane, leave_step, sends_nothing, and_then, command_sent}
+use Rattle.manager_spec.specs.Manager.{Order, Stage, Probing, AskingAlarms, StartingImage, Manager, Outcome, lane_in, other_lane, leave_step, sends_nothing, and_then, command_sent}
 use Rattle.manager_spec.specs.Resync.{with_job}
+use Rattle.manager_spec.specs.Upgrade.{start_command}
 use Rattle.manager_spec.specs.Jobs.{job_of}
 
 -- ---- refusals
@@ -187,3 +189,29 @@ audit_asked m =
 
 unfoldable pub after_audit : Manager → Submission
 after_audit m = unless_refused (audit_refusal m) (audit_asked m) m
+
+-- ---- a download of a software image
+
+abbrev pub image_refusal : Manager → Option Refusal
+image_refusal m = first_refusal (
+    unproven Low m ∷
+    occupied Low m ∷
+    job_running m ∷
+    other_change Low m ∷
+    [])
+
+-- the check value that is given: the image's own, where no other one is asked for
+abbrev pub check_given : Option ℕ → List ℕ → ℕ
+check_given None image = crc image
+check_given (Some check) image = check
+
+-- the unit is asked to take an image into a slot, in windows of so many sections
+abbrev pub image_asked : Order → (asked : ℕ) → List ℕ → Manager → Outcome
+image_asked order asked image m =
+    command_sent false Low (start_command order asked image)
+    (with_job (Some (StartingImage order asked image)) m)
+
+unfoldable pub after_image : (slot asked : ℕ) → Option ℕ → List ℕ → Manager → Submission
+after_image slot asked check image m =
+    unless_refused (image_refusal m)
+    (image_asked (record { slot = slot; check = check_given check image }) asked image m) m

@@ -2,7 +2,16 @@
 //! alone.
 #![tactic(auto)]
 
-use omci_types::{EntityId, Frame, Priority};
+use omci_types::{Code, EntityId, Frame, Priority};
+
+/// The class of software images: the instance is the slot.
+pub const IMAGE_CLASS: u16 = 7;
+
+/// A window that was answered by another code than success is sent anew so many times.
+pub const MOST_RESENT: u8 = 8;
+
+/// The end of a download that was answered busy is sent anew so many times.
+pub const MOST_BUSY: u8 = 60;
 
 /// How the manager's copy of the unit's database stands to it.
 #[derive(Clone, Copy, Debug, PartialEq, Eq)]
@@ -22,6 +31,8 @@ pub enum Job {
     Resync,
     /// It reads all of the unit's alarms into its table.
     Audit,
+    /// It downloads a software image into a slot of the unit.
+    Image,
 }
 
 /// Why a resynchronisation failed.
@@ -52,6 +63,16 @@ pub enum AuditReason {
     Gap { want: u8, have: u8 },
     /// A notice came, and no further one may wait for the end of the audit.
     Overflow,
+}
+
+/// Why a download failed.
+#[derive(Clone, Copy, Debug, PartialEq, Eq)]
+pub enum ImageReason {
+    /// A command that it waited for was given up.
+    GaveUp { tci: u16 },
+    /// A command was answered by this code: its start; its end, where the code isn't busy or came so
+    /// once too often; or a window, once more than it is sent anew.
+    Code { code: Code },
 }
 
 /// Why a command was not submitted. Nothing was sent, and nothing has changed. They are tested in this order.
@@ -96,6 +117,12 @@ pub enum Report {
     Audited { rows: u32 },
     /// An audit has failed.
     AuditFailed { reason: AuditReason },
+    /// A download has ended: the unit holds the image in that slot.
+    ImageDone { slot: u8 },
+    /// A download has failed.
+    ImageFailed { reason: ImageReason },
+    /// The end of a download was answered busy for the so-manieth time.
+    Busy { times: u8 },
     /// An alarm notice came, and is in the table or will be at the audit's end.
     AlarmTaken { number: u8 },
     /// The alarm notice that was taken last came again.

@@ -12,7 +12,7 @@ fn equal_counters_stay_in_step(rt: HostRuntime) -> Result<(), Fail> {
     olt.out.clear();
     assert_eq!(rt; olt.manager.check(&mut olt.out), Ok(()));
     assert!(rt; olt.out.len() == 1 && olt.sends(0, 4, ONU_DATA, GET_COUNTER));
-    olt.answer(4, ONU_DATA, counter_answer(Code::SUCCESS, 7))?;
+    assert!(rt; olt.answers(4, ONU_DATA, counter_answer(Code::SUCCESS, 7)));
     assert!(rt;
         olt.reports(&[Report::Checked {
             given: 7,
@@ -27,7 +27,7 @@ fn equal_counters_stay_in_step(rt: HostRuntime) -> Result<(), Fail> {
 fn other_counters_leave_the_step(rt: HostRuntime) -> Result<(), Fail> {
     let mut olt = Harness::in_step(rt.alloc(), 7)?;
     let _sent = olt.manager.check(&mut olt.out);
-    olt.answer(4, ONU_DATA, counter_answer(Code::SUCCESS, 9))?;
+    assert!(rt; olt.answers(4, ONU_DATA, counter_answer(Code::SUCCESS, 9)));
     assert!(rt;
         olt.reports(&[
             Report::Checked {
@@ -45,7 +45,7 @@ fn other_counters_leave_the_step(rt: HostRuntime) -> Result<(), Fail> {
 fn a_refused_check_leaves_the_step(rt: HostRuntime) -> Result<(), Fail> {
     let mut olt = Harness::in_step(rt.alloc(), 7)?;
     let _sent = olt.manager.check(&mut olt.out);
-    olt.answer(4, ONU_DATA, counter_answer(Code::PROCESSING_ERROR, 7))?;
+    assert!(rt; olt.answers(4, ONU_DATA, counter_answer(Code::PROCESSING_ERROR, 7)));
     let Some(Report::Took { reply }) = olt.manager.report() else {
         panic!(rt; "the reply is not handed on");
     };

@@ -176,6 +176,21 @@ impl Harness {
         self.manager.packet(&bytes, &mut self.out)
     }
 
+    /// The unit answers under this TCI. False where memory ran out.
+    pub fn answers(&mut self, tci: u16, entity: EntityId, response: Response) -> bool {
+        self.answer(tci, entity, response).is_ok()
+    }
+
+    /// The unit gives a notice. False where memory ran out.
+    pub fn tells(&mut self, entity: EntityId, notice: Notice) -> bool {
+        self.tell(entity, notice).is_ok()
+    }
+
+    /// A second passes. False where memory ran out.
+    pub fn ticks(&mut self) -> bool {
+        self.tick().is_ok()
+    }
+
     /// A second passes.
     pub fn tick(&mut self) -> Result<(), NoMemory> {
         self.out.clear();

@@ -6,6 +6,8 @@ mod audits;
 #[cfg(test)]
 mod checks;
 #[cfg(test)]
+mod downloads;
+#[cfg(test)]
 mod harness;
 #[cfg(test)]
 mod refusals;

@@ -31,7 +31,7 @@ fn a_lane_is_proved_and_free_first(rt: HostRuntime) -> Result<(), Fail> {
     assert_eq!(rt; olt.manager.probe(Priority::Low, &mut olt.out), occupied);
     assert_eq!(rt; olt.manager.resync(&mut olt.out), occupied);
     assert!(rt; olt.out.len() == 1);
-    olt.answer(1, ONU_DATA, counter_answer(Code::SUCCESS, 0))?;
+    assert!(rt; olt.answers(1, ONU_DATA, counter_answer(Code::SUCCESS, 0)));
     let new = Err(Refusal::OutOfStep { phase: Phase::New });
     assert_eq!(rt;
         olt.manager
@@ -54,7 +54,7 @@ fn a_lane_is_proved_and_free_first(rt: HostRuntime) -> Result<(), Fail> {
 fn a_get_in_the_high_lane_goes_beside_a_job(rt: HostRuntime) -> Result<(), Fail> {
     let mut olt = Harness::new(rt.alloc())?;
     let _begun = olt.manager.resync(&mut olt.out);
-    olt.answer(0x8001, ONU_DATA, counter_answer(Code::SUCCESS, 0))?;
+    assert!(rt; olt.answers(0x8001, ONU_DATA, counter_answer(Code::SUCCESS, 0)));
     let running = Err(Refusal::JobRunning { job: Job::Resync });
     assert_eq!(rt; olt.manager.probe(Priority::High, &mut olt.out), running);
     let reset = olt
@@ -70,7 +70,7 @@ fn a_get_in_the_high_lane_goes_beside_a_job(rt: HostRuntime) -> Result<(), Fail>
         olt.manager.resync(&mut olt.out),
         Err(Refusal::Occupied { tci: 0x8002 })
     );
-    olt.answer(1, ONU_DATA, counter_answer(Code::SUCCESS, 0))?;
+    assert!(rt; olt.answers(1, ONU_DATA, counter_answer(Code::SUCCESS, 0)));
     assert!(rt; olt.sends(0, 2, ONU_DATA, Request::Upload));
     Ok(())
 }
@@ -86,14 +86,16 @@ fn one_change_is_outstanding_at_a_time(rt: HostRuntime) -> Result<(), Fail> {
         .submit(Priority::Low, entity(7, 1), Request::Commit, &mut olt.out);
     assert_eq!(rt; second, change);
     assert!(rt; olt.submits(Priority::Low, ONU_DATA, GET_COUNTER));
-    olt.answer(
-        0x8002,
-        entity(272, 5),
-        Response::Create {
-            code: Code::INSTANCE_EXISTS,
-            mask: 0,
-        },
-    )?;
+    assert!(rt;
+        olt.answers(
+            0x8002,
+            entity(272, 5),
+            Response::Create {
+                code: Code::INSTANCE_EXISTS,
+                mask: 0,
+            },
+        )
+    );
     assert!(rt; olt.submits(Priority::High, entity(7, 1), Request::Commit));
     Ok(())
 }

@@ -5,7 +5,8 @@ use crate::harness::{
 };
 use olt_manager::{Job, Phase, Report, ResyncReason};
 use omci_contents::{Request, Response};
-use omci_core::{Code, Priority};
+use omci_core::{Code, NoMemory, Priority};
+use std::alloc::Global;
 use std::test::Fail;
 
 #[test]
@@ -18,14 +19,14 @@ fn both_probes_come_before_the_upload(rt: HostRuntime) -> Result<(), Fail> {
     assert!(rt; olt.sends(1, 1, ONU_DATA, GET_COUNTER));
     assert_eq!(rt; olt.manager.job(), Some(Job::Resync));
     assert!(rt; !olt.manager.idle());
-    olt.answer(1, ONU_DATA, counter_answer(Code::UNKNOWN_CLASS, 9))?;
+    assert!(rt; olt.answers(1, ONU_DATA, counter_answer(Code::UNKNOWN_CLASS, 9)));
     assert!(rt; olt.out.is_empty());
     assert!(rt;
         olt.reports(&[Report::Proved {
             lane: Priority::Low
         }])
     );
-    olt.answer(0x8001, entity(45, 1), Response::Delete { code: Code::BUSY })?;
+    assert!(rt; olt.answers(0x8001, entity(45, 1), Response::Delete { code: Code::BUSY }));
     assert!(rt; olt.out.len() == 1 && olt.sends(0, 2, ONU_DATA, Request::Upload));
     assert!(rt;
         olt.reports(&[Report::Proved {
@@ -40,7 +41,7 @@ fn three_pieces_make_the_copy(rt: HostRuntime) -> Result<(), Fail> {
     let mut olt = Harness::probed(rt.alloc())?;
     let _high = olt.manager.report();
     let _low = olt.manager.report();
-    olt.answer(2, ONU_DATA, Response::Upload { count: 3 })?;
+    assert!(rt; olt.answers(2, ONU_DATA, Response::Upload { count: 3 }));
     for (number, piece) in [
         counter_piece(7),
         piece(999, 1, 0x8000, &[1]),
@@ -52,7 +53,7 @@ fn three_pieces_make_the_copy(rt: HostRuntime) -> Result<(), Fail> {
         let number = number as u16;
         assert!(rt; olt.sends(0, number + 3, ONU_DATA, Request::UploadNext { number }));
         assert_eq!(rt; olt.manager.phase(), Phase::New);
-        olt.answer(number + 3, ONU_DATA, Response::UploadNext { piece: *piece })?;
+        assert!(rt; olt.answers(number + 3, ONU_DATA, Response::UploadNext { piece: *piece }));
     }
     assert!(rt; olt.out.is_empty() && olt.manager.idle());
     assert_eq!(rt; olt.manager.phase(), Phase::InStep);
@@ -90,28 +91,33 @@ fn the_copy_has_what_the_pieces_gave(rt: HostRuntime) -> Result<(), Fail> {
     Ok(())
 }
 
+/// Whether a resynchronisation of so many pieces, of which these come, fails for this reason.
+fn fails(
+    alloc: Global,
+    count: u16,
+    pieces: &[[u8; 32]],
+    reason: ResyncReason,
+) -> Result<bool, NoMemory> {
+    let mut olt = Harness::gathered(alloc, count, pieces)?;
+    Ok(olt.has_failed(reason))
+}
+
 #[test]
 fn each_fault_of_a_piece_ends_the_job(rt: HostRuntime) -> Result<(), Fail> {
-    let mut olt = Harness::gathered(rt.alloc(), 2, &[[0; 32]])?;
-    assert!(rt; olt.has_failed(ResyncReason::Empty));
-    let mut olt = Harness::gathered(rt.alloc(), 2, &[piece(130, 1, 0xfff8, &[])])?;
-    assert!(rt;
-        olt.has_failed(ResyncReason::Truncated {
-            entity: entity(130, 1)
-        })
-    );
+    assert!(rt; fails(rt.alloc(), 2, &[[0; 32]], ResyncReason::Empty)?);
+    let long = piece(130, 1, 0xfff8, &[]);
+    let truncated = ResyncReason::Truncated {
+        entity: entity(130, 1),
+    };
+    assert!(rt; fails(rt.alloc(), 2, &[long], truncated)?);
     let twice = piece(84, 1, 0x2000, &[7]);
-    let mut olt = Harness::gathered(rt.alloc(), 3, &[counter_piece(1), twice, twice])?;
-    assert!(rt;
-        olt.has_failed(ResyncReason::Repeated {
-            entity: entity(84, 1),
-            attribute: 3,
-        })
-    );
-    let mut olt = Harness::gathered(rt.alloc(), 1, &[twice])?;
-    assert!(rt; olt.has_failed(ResyncReason::Missing));
-    let mut olt = Harness::gathered(rt.alloc(), 0, &[])?;
-    assert!(rt; olt.has_failed(ResyncReason::Missing));
+    let repeated = ResyncReason::Repeated {
+        entity: entity(84, 1),
+        attribute: 3,
+    };
+    assert!(rt; fails(rt.alloc(), 3, &[counter_piece(1), twice, twice], repeated)?);
+    assert!(rt; fails(rt.alloc(), 1, &[twice], ResyncReason::Missing)?);
+    assert!(rt; fails(rt.alloc(), 0, &[], ResyncReason::Missing)?);
     Ok(())
 }
 
@@ -119,10 +125,10 @@ fn each_fault_of_a_piece_ends_the_job(rt: HostRuntime) -> Result<(), Fail> {
 fn a_lost_probe_ends_the_job(rt: HostRuntime) -> Result<(), Fail> {
     let mut olt = Harness::in_step(rt.alloc(), 7)?;
     assert_eq!(rt; olt.manager.resync(&mut olt.out), Ok(()));
-    olt.tick()?;
-    olt.tick()?;
+    assert!(rt; olt.ticks());
+    assert!(rt; olt.ticks());
     assert!(rt; olt.reports(&[]));
-    olt.tick()?;
+    assert!(rt; olt.ticks());
     assert!(rt; olt.sends(0, 4, ONU_DATA, GET_COUNTER));
     assert!(rt;
         olt.reports(&[
@@ -134,7 +140,7 @@ fn a_lost_probe_ends_the_job(rt: HostRuntime) -> Result<(), Fail> {
         ])
     );
     assert_eq!(rt; olt.copy(), Some((7, 1)));
-    olt.answer(4, ONU_DATA, counter_answer(Code::SUCCESS, 7))?;
+    assert!(rt; olt.answers(4, ONU_DATA, counter_answer(Code::SUCCESS, 7)));
     assert!(rt; olt.out.is_empty() && olt.manager.idle());
     assert!(rt;
         olt.reports(&[Report::Proved {
@@ -148,10 +154,10 @@ fn a_lost_probe_ends_the_job(rt: HostRuntime) -> Result<(), Fail> {
 fn a_lost_piece_ends_the_job(rt: HostRuntime) -> Result<(), Fail> {
     let mut olt = Harness::gathered(rt.alloc(), 2, &[counter_piece(7)])?;
     for _second in 0..8u8 {
-        olt.tick()?;
+        assert!(rt; olt.ticks());
         assert!(rt; olt.manager.job().is_some());
     }
-    olt.tick()?;
+    assert!(rt; olt.ticks());
     assert!(rt;
         olt.reports(&[
             Report::GaveUp { tci: 4 },
@@ -161,13 +167,15 @@ fn a_lost_piece_ends_the_job(rt: HostRuntime) -> Result<(), Fail> {
         ])
     );
     assert_eq!(rt; olt.manager.phase(), Phase::Out);
-    olt.answer(
-        4,
-        ONU_DATA,
-        Response::UploadNext {
-            piece: counter_piece(8),
-        },
-    )?;
+    assert!(rt;
+        olt.answers(
+            4,
+            ONU_DATA,
+            Response::UploadNext {
+                piece: counter_piece(8),
+            },
+        )
+    );
     assert!(rt; olt.reports(&[Report::Dropped]) && olt.copy().is_none());
     Ok(())
 }

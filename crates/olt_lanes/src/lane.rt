@@ -6,6 +6,7 @@ ghost use Rattle.tci_spec.specs.Tci.{IsNumber, tci_of};
 ghost use Rattle.lane_spec.specs.Command.{answers, command_packets};
 ghost use Rattle.lane_spec.specs.Lane.{new_lane, with_command, next_tci, timeout_of, lane_tick};
 ghost use Rattle.lane_spec.specs.Lane.{lane_reply, is_changed_by, waiting_packets};
+ghost use Rattle.olt_lanes.specs.Sections.{AddsFront};
 
 use crate::command::{Command, is_change};
 use crate::{Frame, LaneTick, NoMemory, Packets, Priority};
@@ -74,13 +75,16 @@ impl Waiting {
     fn packets(&self, out: &mut Packets) -> Result<(), NoMemory>
         ensures ok { OnOk result
             (out.new ≡ out.old ++ command_packets self.now.tci self.now.command) }
+        ensures err { OnErr result (AddsFront
+            (command_packets self.now.tci self.now.command) out.old out.new) }
         ensures whole { OnOk result (All (λ packet. length packet ≡ 48)
             (command_packets self.now.tci self.now.command)) }
-        ensures err { OnErr result (out.new ≡ out.old) }
     {
+        self.command.earlier_packets(self.frame.tci, out)?;
         let mut bytes = [0; 48];
         encode(&self.frame, &mut bytes);
-        out.push_bytes(&bytes)
+        out.push_bytes(&bytes)?;
+        Ok(())
     }
 }
 
@@ -244,13 +248,14 @@ impl Lane {
     }
 
     /// Adds the packets that the outstanding command sends each time, all under its TCI; none where
-    /// nothing is outstanding. `NoMemory` where there is no room for them; the list is then as it
-    /// was.
+    /// nothing is outstanding. `NoMemory` where there is no room for one of them; those before it
+    /// have then been added.
     pub fn packets(&self, out: &mut Packets) -> Result<(), NoMemory>
         ensures ok { OnOk result (out.new ≡ out.old ++ waiting_packets self.now.outstanding) }
+        ensures err { OnErr result (AddsFront
+            (waiting_packets self.now.outstanding) out.old out.new) }
         ensures whole { OnOk result (All (λ packet. length packet ≡ 48)
             (waiting_packets self.now.outstanding)) }
-        ensures err { OnErr result (out.new ≡ out.old) }
     {
         match &self.outstanding {
             None => Ok(()),

@@ -9,5 +9,5 @@ pub use command::{Command, is_change};
 pub use lane::Lane;
 pub use lane_spec::{LaneTick, Purpose};
 pub use message_spec::Request;
-pub use omci_core::{EntityId, NoMemory, Packets, Priority};
+pub use omci_core::{EntityId, NoMemory, Packets, Priority, Words};
 pub use omci_frames::Frame;

@@ -1,3 +1,7 @@
 pub mod Untaken
 pub mod Gathered
 pub mod Rows
+pub mod Downloads
+pub mod Sections
+pub mod Granted
+pub mod Sent

@@ -1,6 +1,6 @@
 -- The table while an audit reads its rows, and that what a row comes to doesn't hang on the job.
 use Rattle.std.proofs.Common.{◌≡◌, ℕ, ◌+◌, ◌<◌, ◌≤◌, refl, sym, ap, subst, ◌∙◌, arith}
-use Rattle.std.proofs.Common.{Bool, true, false, nat_le, is_some, T}
+use Rattle.std.proofs.Common.{Bool, true, false, nat_le, is_some}
 use Rattle.std.proofs.Common.{List, [], ◌∷◌, ◌++◌, length, Option, Some, None}
 use Rattle.std.proofs.lemmas.List.{length-append}
 use Rattle.omci_types.specs.declared.EntityId.{EntityId}
@@ -10,7 +10,6 @@ use Rattle.message_spec.specs.declared.Response.TheVariants as response
 use Rattle.alarm_spec.specs.declared.TheConstants.{MOST_WAITING}
 use Rattle.alarm_spec.specs.declared.BadRow.{BadRow}
 use Rattle.alarm_spec.specs.declared.BadRow.TheVariants as bad
-use Rattle.alarm_spec.specs.declared.TakenAlarm.{TakenAlarm}
 use Rattle.alarm_spec.specs.declared.TakenAlarm.TheVariants.{Unaudited, Repeat, Taken}
 use Rattle.alarm_spec.specs.Alarms.{Alarm, Alarms, with_bitmap, with_alarm, after}
 use Rattle.alarm_spec.specs.Alarms.{entity_in, bitmap_in}
@@ -144,6 +143,10 @@ job_taken (Some stage.AskingAlarms) one bitmap number t n e is h = tt
 job_taken (Some (stage.GatheringRows expected next)) one bitmap number t n e is h =
     let kept = reading_taken one bitmap number next t (sym is) h.1 in
     (h.0, subst (λ n. IsReading next n) (sym e) kept)
+job_taken (Some (stage.StartingImage order asked image)) one bitmap number t n e is h = h
+job_taken (Some (stage.SendingImage order outbox resent)) one bitmap number t n e is h = h
+job_taken (Some (stage.EndingImage order outbox busy)) one bitmap number t n e is h = h
+job_taken (Some (stage.DelayingEnd order outbox busy)) one bitmap number t n e is h = h
 
 -- ---- the job that runs is replaced
 

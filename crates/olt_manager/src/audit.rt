@@ -2,16 +2,19 @@
 //! its alarms by, and their rows are gathered one after the other; notices that come meanwhile
 //! wait.
 
-ghost use Rattle.std.specs.Prelude.{◌≡◌, ◌<◌, [], OnOk, None};
+ghost use Rattle.std.specs.Prelude.{◌≡◌, ◌<◌, [], option_map, OnOk, None, Some};
+ghost use Rattle.manager_spec.specs.Jobs.{job_of};
+ghost use Rattle.manager_spec.specs.Steps.{job_by, response_of};
 ghost use Rattle.manager_spec.specs.Audit.{audit_failed, audit_done, audit_begun, rows_on};
 ghost use Rattle.manager_spec.specs.Audit.{row_came, alarm_came, notice_came};
 ghost use Rattle.olt_manager.specs.Stages.{IsReading, is_audit};
 
 use crate::olt::Olt;
+use crate::replies::response_of;
 use crate::stage::{Stage, job_of};
 use alarm_log::{BITMAP_BYTES, ROW_BYTES, RowFault, TakenAlarm};
 use manager_spec::{AuditReason, Job, Report};
-use omci_contents::Notice;
+use omci_contents::{Notice, Response};
 use omci_core::{EntityId, NoMemory};
 use omci_frames::Frame;
 
@@ -42,6 +45,27 @@ impl Olt {
 
     // ---- what a reply does
 
+    /// The reply that an audit waits for, or one to a command whose job has ended.
+    pub fn audit_taken(&mut self, frame: &Frame) -> Result<(), NoMemory>
+        requires job { option_map job_of self.old.job ≡ Some Job.Audit }
+        ensures manager { OnOk result
+            (self.new ≡ job_by self.old.job (response_of frame.now) frame.now self.old) }
+    {
+        match (self.job.take(), response_of(frame)) {
+            (Some(Stage::AskingAlarms), Some(Response::Alarms { count })) => {
+                self.begin_rows(count)?;
+            }
+            (Some(Stage::GatheringRows { expected, next }), Some(Response::AlarmsNext { row })) => {
+                self.row_came(expected, next, &row)?;
+            }
+            (job, _) => {
+                self.job = job;
+                self.free(frame)?;
+            }
+        }
+        Ok(())
+    }
+
     /// The rows before this number are gathered.
     #[tactic(auto, unfolding(manager_spec::specs::Audit::rows_on))]
     fn rows_on(&mut self, expected: u16, next: u16) -> Result<(), NoMemory>
@@ -57,7 +81,7 @@ impl Olt {
     }
 
     /// The reply came that says how many rows there are.
-    pub fn begin_rows(&mut self, expected: u16) -> Result<(), NoMemory>
+    fn begin_rows(&mut self, expected: u16) -> Result<(), NoMemory>
         requires ended { self.old.job ≡ None }
         ensures manager { OnOk result (self.new ≡ audit_begun expected self.old) }
     {
@@ -66,12 +90,7 @@ impl Olt {
     }
 
     /// The row of this number came. A fault of it ends the job.
-    pub fn row_came(
-        &mut self,
-        expected: u16,
-        next: u16,
-        row: &[u8; ROW_BYTES],
-    ) -> Result<(), NoMemory>
+    fn row_came(&mut self, expected: u16, next: u16, row: &[u8; ROW_BYTES]) -> Result<(), NoMemory>
         requires ended { self.old.job ≡ None }
         requires more { next < expected }
         requires rows { IsReading next self.old.table }

@@ -42,7 +42,7 @@ fn copy_after(
                 copy.grow();
             }
         }
-        Request::Commit => match phase {
+        Request::Commit | Request::Start { .. } | Request::End { .. } => match phase {
             Phase::InStep => copy.grow(),
             Phase::New | Phase::Out => {}
         },
@@ -54,9 +54,7 @@ fn copy_after(
         | Request::AlarmsNext { .. }
         | Request::Upload
         | Request::UploadNext { .. }
-        | Request::Start { .. }
-        | Request::Section { .. }
-        | Request::End { .. } => {}
+        | Request::Section { .. } => {}
     }
     Ok(())
 }

@@ -1,16 +1,17 @@
 //! A job that runs: what it waits for, how a give-up ends it, and what it sends next.
 
-ghost use Rattle.std.specs.Prelude.{◌≡◌, ◌++◌, option_map, OnOk, IfSome};
-ghost use Rattle.message_spec.specs.Reading.{RequestWindow};
+ghost use Rattle.std.specs.Prelude.{◌≡◌, ◌++◌, option_map, OnOk, IfOk};
 ghost use Rattle.manager_spec.specs.Manager.{packets_of};
 ghost use Rattle.manager_spec.specs.Jobs.{job_lost, waits_for, wish_in, is_free, job_goes_on};
+ghost use Rattle.manager_spec.specs.Jobs.{job_resumes};
 ghost use Rattle.olt_manager.specs.State.{AreFrames};
 ghost use Rattle.olt_manager.specs.Stages.{with_wish};
 
 use crate::olt::Olt;
 use crate::stage::{Stage, job_of};
+use crate::upgrade::{end_command, window_command};
 use class_spec::ONU_DATA;
-use manager_spec::{AuditReason, Job, ResyncReason};
+use manager_spec::{AuditReason, ImageReason, Job, ResyncReason};
 use olt_lanes::{Command, Lane};
 use omci_contents::Request;
 use omci_core::{NoMemory, Packets, Priority};
@@ -32,6 +33,10 @@ impl Olt {
             Some(stage) => match job_of(stage) {
                 Job::Resync => self.fail_resync(ResyncReason::GaveUp { tci }),
                 Job::Audit => self.fail_audit(AuditReason::GaveUp { tci }),
+                Job::Image => {
+                    self.fail_image(ImageReason::GaveUp { tci })?;
+                    self.leave_step()
+                }
             },
         }
     }
@@ -48,17 +53,23 @@ impl Olt {
             (Some(Stage::Gathering { .. }), Priority::Low) => true,
             (Some(Stage::AskingAlarms), Priority::Low) => true,
             (Some(Stage::GatheringRows { .. }), Priority::Low) => true,
+            (Some(Stage::StartingImage { .. }), Priority::Low) => true,
+            (Some(Stage::SendingImage { .. }), Priority::Low) => true,
+            (Some(Stage::EndingImage { .. }), Priority::Low) => true,
+            (Some(Stage::DelayingEnd { .. }), Priority::Low) => true,
             (Some(_stage), Priority::High) => false,
         }
     }
 
-    /// What the job asks next, if anything; its stage is then the one that the request begins.
-    fn next_request(&mut self) -> Option<Request>
-        ensures request { result ≡ option_map (λ w. w.request) (wish_in self.old.job) }
-        ensures manager { self.new ≡ with_wish (wish_in self.old.job) self.old }
-        ensures window { IfSome result (λ request. RequestWindow request) }
+    /// The command that the job sends next, if any; its stage is then the one that the command
+    /// begins. The lanes stay as they are.
+    fn next_command(&mut self) -> Result<Option<Command>, NoMemory>
+        ensures command { IfOk result
+            (λ command. command ≡ option_map (λ w. w.command) (wish_in self.old.job)) }
+        ensures manager { OnOk result (self.new ≡ with_wish (wish_in self.old.job) self.old) }
+        ensures low { OnOk result (self.new.low ≡ self.old.low) }
     {
-        match &self.job {
+        let request = match &self.job {
             Some(
                 Stage::Probing {
                     high: false,
@@ -66,12 +77,19 @@ impl Olt {
                 },
             ) => {
                 self.job = Some(Stage::Asking);
-                Some(Request::Upload)
+                Request::Upload
             }
-            Some(Stage::Gathering { next, .. }) => Some(Request::UploadNext { number: *next }),
-            Some(Stage::GatheringRows { next, .. }) => Some(Request::AlarmsNext { number: *next }),
-            _ => None,
-        }
+            Some(Stage::Gathering { next, .. }) => Request::UploadNext { number: *next },
+            Some(Stage::GatheringRows { next, .. }) => Request::AlarmsNext { number: *next },
+            Some(Stage::SendingImage { order, outbox, .. }) => {
+                return Ok(Some(window_command(self.alloc, order, outbox)?));
+            }
+            Some(Stage::EndingImage { order, outbox, .. }) => {
+                return Ok(Some(end_command(order, outbox)));
+            }
+            _ => return Ok(None),
+        };
+        Ok(Some(Command::job(ONU_DATA, request)))
     }
 
     /// The low lane, where it is free, sends what the job wants next.
@@ -85,9 +103,38 @@ impl Olt {
         if !is_free(&self.low) {
             return Ok(());
         }
-        if let Some(request) = self.next_request() {
-            self.send(Priority::Low, Command::job(ONU_DATA, request), out)?;
+        if let Some(command) = self.next_command()? {
+            self.send(Priority::Low, command, out)?;
         }
         Ok(())
+    }
+
+    /// A job that waited for the second goes on.
+    pub fn job_resumes(&mut self, out: &mut Packets) -> Result<(), NoMemory>
+        ensures manager { OnOk result (self.new ≡ (job_resumes self.old).manager) }
+        ensures packets { OnOk result
+            (out.new ≡ out.old ++ packets_of (job_resumes self.old).sendings) }
+        ensures whole { OnOk result (AreFrames (packets_of (job_resumes self.old).sendings)) }
+    {
+        match self.job.take() {
+            Some(
+                Stage::DelayingEnd {
+                    order,
+                    outbox,
+                    busy,
+                },
+            ) => {
+                self.job = Some(Stage::EndingImage {
+                    order,
+                    outbox,
+                    busy,
+                });
+                self.job_goes_on(out)
+            }
+            job => {
+                self.job = job;
+                Ok(())
+            }
+        }
     }
 }

@@ -1,21 +1,22 @@
 //! The manager as its callers hold it.
 
-ghost use Rattle.std.specs.Prelude.{◌≡◌, ◌≢◌, ◌↔◌, ◌++◌, ◌&&◌, is_none, option_copied, option_map};
+ghost use Rattle.std.specs.Prelude.{◌≡◌, ◌≢◌, ◌<◌, ◌↔◌, ◌++◌, ◌&&◌, is_none, option_copied, option_map};
 ghost use Rattle.std.specs.Prelude.{Option, IfOk};
 ghost use Rattle.std.specs.Prelude.{Some, None, true, Ok, Err, IfErr, OnOk, OnErr, IsNone};
 ghost use Rattle.std.specs.Prelude.{option_to_list, []};
 ghost use Rattle.tci_spec.specs.Tci.{IsNumber};
-ghost use Rattle.message_spec.specs.Reading.{RequestWindow};
+ghost use Rattle.message_spec.specs.Reading.{RequestWindow, IsWindow};
 ghost use Rattle.manager_spec.specs.declared.Refusal.TheVariants as refusal;
 ghost use Rattle.manager_spec.specs.Manager.{manager_started, packets_of};
 ghost use Rattle.manager_spec.specs.Submitting.{after_probe, after_submit, after_check};
-ghost use Rattle.manager_spec.specs.Submitting.{after_resync, after_audit};
+ghost use Rattle.manager_spec.specs.Submitting.{after_resync, after_audit, after_image};
 ghost use Rattle.manager_spec.specs.Jobs.{job_of};
 ghost use Rattle.manager_spec.specs.Steps.{after_packet, after_tick};
 ghost use Rattle.olt_manager.specs.State.{sound, AreFrames};
 
 use crate::olt::Olt;
 use alarm_log::AlarmTable;
+use download_window::Image;
 use manager_spec::{Job, Phase, Refusal, Report};
 use mib_upload::MibCopy;
 use omci_contents::Request;
@@ -214,6 +215,46 @@ impl Manager {
         answer
     }
 
+    /// Begins a download of an image into slot 0 or 1 of the unit (ITU-T G.988, annex A, software
+    /// download), in windows of at most so many sections, 1 to 256. Where no check value is given,
+    /// the image's own is sent. Refused, in this order, where the low lane isn't proved, where a
+    /// command is outstanding in it, where a job runs, and where a change is outstanding in the high
+    /// lane; then nothing has changed, nothing is sent, and the image is dropped.
+    pub fn image(
+        &mut self,
+        slot: u8,
+        window: u16,
+        crc: Option<u32>,
+        image: Image,
+        out: &mut Packets,
+    ) -> Result<(), Refusal>
+        requires slot { slot < 2 }
+        requires window { IsWindow window }
+        ensures refused { IfErr result (λ r. r ≢ refusal.NoMemory
+            → (after_image slot window crc image self.old.manager).refusal ≡ Some r) }
+        ensures accepted { OnOk result
+            ((after_image slot window crc image self.old.manager).refusal ≡ None) }
+        ensures kept { IfErr result
+            (λ r. r ≢ refusal.NoMemory → (self.new ≡ self.old) × (out.new ≡ out.old)) }
+        ensures manager { result ≢ Err refusal.NoMemory → self.new
+            ≡ sound (after_image slot window crc image self.old.manager).outcome.manager }
+        ensures packets { result ≢ Err refusal.NoMemory
+            → out.new ≡ out.old ++ packets_of
+            (after_image slot window crc image self.old.manager).outcome.sendings }
+        ensures whole { result ≢ Err refusal.NoMemory
+            → AreFrames (packets_of
+            (after_image slot window crc image self.old.manager).outcome.sendings) }
+        ensures spent { self.old.spent ≡ true → result ≡ Err refusal.NoMemory }
+        ensures spends { result ≡ Err refusal.NoMemory → self.new.spent ≡ true }
+    {
+        if self.spent {
+            return Err(Refusal::NoMemory);
+        }
+        let answer = answer_of(self.olt.image(slot, window, crc, image, out));
+        self.spent = matches!(answer, Err(Refusal::NoMemory));
+        answer
+    }
+
     /// Takes a packet from the link, and puts what the manager sends on it into `out`. What answers
     /// nothing that is outstanding is taken where it is a notice, whatever its TCI: an alarm goes
     /// to the table, and a changed value is reported alone. Anything else, and a packet that isn't
@@ -238,7 +279,7 @@ impl Manager {
 
     /// A second passes, for the high lane and then for the low one: an outstanding command is sent
     /// again when its time is over, and given up after its second repeat. A job that waited for it
-    /// has then failed.
+    /// has then failed. A download whose end was answered busy sends it anew.
     pub fn tick(&mut self, out: &mut Packets) -> Result<(), NoMemory>
         ensures manager { OnOk result (self.new ≡ sound (after_tick self.old.manager).manager) }
         ensures packets { OnOk result

@@ -1,22 +1,21 @@
 //! What a packet does to the manager.
 
-ghost use Rattle.std.specs.Prelude.{◌≡◌, ◌++◌, [], OnOk};
+ghost use Rattle.std.specs.Prelude.{◌≡◌, ◌++◌, [], OnOk, IfSome};
 ghost use Rattle.tci_spec.specs.Tci.{priority_of};
-ghost use Rattle.message_spec.specs.Reading.{RequestWindow, message_of};
+ghost use Rattle.message_spec.specs.Reading.{message_of};
 ghost use Rattle.lane_spec.specs.Command.{ask};
 ghost use Rattle.lane_spec.specs.Lane.{lane_reply};
 ghost use Rattle.manager_spec.specs.declared.Report.TheVariants as report;
 ghost use Rattle.manager_spec.specs.Manager.{lane_in, with_lane, with_report, packets_of};
 ghost use Rattle.manager_spec.specs.Steps.{response_of, code_of, first_value, probe_taken};
 ghost use Rattle.manager_spec.specs.Steps.{followed_by, expected_counter, counters_compared};
-ghost use Rattle.manager_spec.specs.Steps.{checked_by, job_by, taken_as, not_taken, frame_came};
-ghost use Rattle.manager_spec.specs.Steps.{after_packet};
+ghost use Rattle.manager_spec.specs.Steps.{checked_by, freed, job_by, taken_as, not_taken};
+ghost use Rattle.manager_spec.specs.Steps.{frame_came, after_packet};
 ghost use Rattle.olt_manager.specs.State.{AreFrames};
+ghost use Rattle.olt_manager.specs.Stages.{of_parts, GrantsSome};
 
 use crate::olt::Olt;
-use crate::stage::Stage;
-use manager_spec::Report;
-use mib_upload::Gather;
+use manager_spec::{Job, Report};
 use olt_lanes::Purpose;
 use omci_contents::{Message, Request, Response, read_message};
 use omci_core::{Code, EntityId, NoMemory, Packets, Priority};
@@ -36,8 +35,9 @@ fn priority_of(tci: u16) -> Priority
 
 /// The response that a frame is, if it is one.
 #[tactic(auto, unfolding(manager_spec::specs::Steps::response_of))]
-fn response_of(frame: &Frame) -> Option<Response>
+pub fn response_of(frame: &Frame) -> Option<Response>
     ensures value { result ≡ response_of frame.now }
+    ensures grants { IfSome result (λ response. GrantsSome response) }
 {
     match read_message(frame) {
         Ok(Message::Answered { response, .. }) => Some(response),
@@ -151,8 +151,7 @@ impl Olt {
         frame: &Frame,
     ) -> Result<(), NoMemory>
         ensures manager { OnOk result (self.new ≡ (taken_as purpose priority
-            (record { purpose = purpose; entity = entity; request = request.now })
-            frame.now self.old).manager) }
+            (of_parts purpose entity request.now) frame.now self.old).manager) }
     {
         match purpose {
             Purpose::Probe => self.probe_taken(priority)?,
@@ -244,24 +243,18 @@ impl Olt {
         ensures manager { OnOk result
             (self.new ≡ job_by self.old.job (response_of frame.now) frame.now self.old) }
     {
-        match (self.job.take(), response_of(frame)) {
-            (Some(Stage::Asking), Some(Response::Upload { count })) => {
-                self.gather_on(Gather::new(self.alloc, count), 0)?;
-            }
-            (Some(Stage::Gathering { gather, next }), Some(Response::UploadNext { piece })) => {
-                self.piece_came(gather, next, &piece)?;
-            }
-            (Some(Stage::AskingAlarms), Some(Response::Alarms { count })) => {
-                self.begin_rows(count)?;
-            }
-            (Some(Stage::GatheringRows { expected, next }), Some(Response::AlarmsNext { row })) => {
-                self.row_came(expected, next, &row)?;
-            }
-            (job, _) => {
-                self.job = job;
-                self.report(Report::Freed { tci: frame.tci })?;
-            }
+        match self.job() {
+            None => self.free(frame),
+            Some(Job::Resync) => self.resync_taken(frame),
+            Some(Job::Audit) => self.audit_taken(frame),
+            Some(Job::Image) => self.download_taken(frame),
         }
-        Ok(())
+    }
+
+    /// The reply frees its lane, and that is all.
+    pub fn free(&mut self, frame: &Frame) -> Result<(), NoMemory>
+        ensures manager { OnOk result (self.new ≡ freed frame.now self.old) }
+    {
+        self.report(Report::Freed { tci: frame.tci })
     }
 }

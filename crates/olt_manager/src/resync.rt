@@ -2,16 +2,20 @@
 //! is asked to put its database by, and its pieces are gathered one after the other into a new
 //! copy.
 
-ghost use Rattle.std.specs.Prelude.{◌≡◌, ◌<◌, ◌≤◌, ◌^◌, length, OnOk};
+ghost use Rattle.std.specs.Prelude.{◌≡◌, ◌<◌, ◌≤◌, ◌^◌, length, option_map, OnOk, Some};
+ghost use Rattle.manager_spec.specs.Jobs.{job_of};
 ghost use Rattle.manager_spec.specs.Resync.{with_job, resync_failed, resync_done, all_gathered};
 ghost use Rattle.manager_spec.specs.Resync.{gather_on, piece_came};
-ghost use Rattle.manager_spec.specs.Steps.{job_probed};
+ghost use Rattle.manager_spec.specs.Steps.{job_probed, job_by, response_of};
 
 use crate::olt::Olt;
+use crate::replies::response_of;
 use crate::stage::Stage;
-use manager_spec::{Phase, Report, ResyncReason};
+use manager_spec::{Job, Phase, Report, ResyncReason};
 use mib_upload::{Gather, GatherFault, MibCopy, Missing, PIECE_BYTES};
+use omci_contents::Response;
 use omci_core::{NoMemory, Priority};
+use omci_frames::Frame;
 
 impl Olt {
     // ---- how it ends
@@ -55,6 +59,27 @@ impl Olt {
 
     // ---- what a reply does
 
+    /// The reply that a resynchronisation waits for, or one to a command whose job has ended.
+    pub fn resync_taken(&mut self, frame: &Frame) -> Result<(), NoMemory>
+        requires job { option_map job_of self.old.job ≡ Some Job.Resync }
+        ensures manager { OnOk result
+            (self.new ≡ job_by self.old.job (response_of frame.now) frame.now self.old) }
+    {
+        match (self.job.take(), response_of(frame)) {
+            (Some(Stage::Asking), Some(Response::Upload { count })) => {
+                self.gather_on(Gather::new(self.alloc, count), 0)?;
+            }
+            (Some(Stage::Gathering { gather, next }), Some(Response::UploadNext { piece })) => {
+                self.piece_came(gather, next, &piece)?;
+            }
+            (job, _) => {
+                self.job = job;
+                self.free(frame)?;
+            }
+        }
+        Ok(())
+    }
+
     /// A job that waits for the lane's probe no longer does.
     pub fn probe_answered(&mut self, priority: Priority)
         ensures manager { self.new ≡ with_job (job_probed priority self.old.job) self.old }
@@ -69,7 +94,7 @@ impl Olt {
 
     /// The pieces before this number are gathered.
     #[tactic(auto, unfolding(manager_spec::specs::Resync::gather_on))]
-    pub fn gather_on(&mut self, gather: Gather, next: u16) -> Result<(), NoMemory>
+    fn gather_on(&mut self, gather: Gather, next: u16) -> Result<(), NoMemory>
         requires few { length gather.copy ≤ next }
         ensures manager { OnOk result
             (self.new ≡ gather_on gather.expected next gather.copy self.old) }
@@ -84,7 +109,7 @@ impl Olt {
     /// The piece of this number came. One of an unknown class is passed over, and any other fault
     /// ends the job.
     #[tactic(auto, using(crate::proofs::Gathered::length_joined))]
-    pub fn piece_came(
+    fn piece_came(
         &mut self,
         mut gather: Gather,
         next: u16,

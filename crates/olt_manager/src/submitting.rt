@@ -1,9 +1,9 @@
-//! What is asked of the manager: probes, submissions, checks, resynchronisations and audits, and
-//! when each is refused.
+//! What is asked of the manager: probes, submissions, checks, resynchronisations, audits and
+//! downloads, and when each is refused.
 
 ghost use Rattle.std.specs.Prelude.{◌≡◌, ◌++◌, IfOk, OnOk, IsSome};
 ghost use Rattle.omci_types.specs.declared.Priority.TheVariants.{Low};
-ghost use Rattle.message_spec.specs.Reading.{RequestWindow};
+ghost use Rattle.message_spec.specs.Reading.{RequestWindow, IsWindow};
 ghost use Rattle.manager_spec.specs.Manager.{packets_of};
 ghost use Rattle.manager_spec.specs.Submitting.{unproven, occupied, needs_copy, out_of_step};
 ghost use Rattle.manager_spec.specs.Submitting.{job_running, goes_beside, job_in_the_way};
@@ -11,12 +11,16 @@ ghost use Rattle.manager_spec.specs.Submitting.{other_change, second_change, pro
 ghost use Rattle.manager_spec.specs.Submitting.{submit_refusal, check_refusal, resync_refusal};
 ghost use Rattle.manager_spec.specs.Submitting.{leaves_copy, leave_if, after_probe, after_submit};
 ghost use Rattle.manager_spec.specs.Submitting.{after_check, after_resync, audit_refusal};
-ghost use Rattle.manager_spec.specs.Submitting.{after_audit};
+ghost use Rattle.manager_spec.specs.Submitting.{after_audit, image_refusal, after_image};
+ghost use Rattle.manager_spec.specs.Submitting.{check_given};
 ghost use Rattle.olt_manager.specs.State.{AreFrames};
 
 use crate::olt::Olt;
-use crate::stage::{Stage, job_of};
+use crate::stage::{Order, Stage, job_of};
+use crate::upgrade::start_command;
+use aal5_crc::crc_of;
 use class_spec::ONU_DATA;
+use download_window::Image;
 use manager_spec::{Phase, Refusal};
 use olt_lanes::{Command, is_change};
 use omci_contents::Request;
@@ -243,6 +247,25 @@ impl Olt {
         self.job_running()
     }
 
+    /// The first reason why no download begins.
+    fn image_refusal(&self) -> Option<Refusal>
+        ensures value { result ≡ image_refusal self.now }
+    {
+        let unproven = self.unproven(Priority::Low);
+        if unproven.is_some() {
+            return unproven;
+        }
+        let occupied = self.occupied(Priority::Low);
+        if occupied.is_some() {
+            return occupied;
+        }
+        let job = self.job_running();
+        if job.is_some() {
+            return job;
+        }
+        self.other_change(Priority::Low)
+    }
+
     // ---- what is submitted
 
     /// Probes a lane: a get of MIB data sync, whose reply proves the lane whatever it says.
@@ -374,5 +397,57 @@ impl Olt {
             self.send(Priority::Low, command, out)?;
         }
         Ok(refusal)
+    }
+
+    /// Begins a download of an image into a slot, in windows of so many sections, with the image's
+    /// own check value where no other one is given.
+    #[tactic(auto, unfolding(manager_spec::specs::Submitting::after_image))]
+    pub fn image(
+        &mut self,
+        slot: u8,
+        asked: u16,
+        check: Option<u32>,
+        image: Image,
+        out: &mut Packets,
+    ) -> Result<Option<Refusal>, NoMemory>
+        requires asked { IsWindow asked }
+        ensures refusal { IfOk result
+            (λ refusal. refusal ≡ (after_image slot asked check image self.old).refusal) }
+        ensures manager { OnOk result
+            (self.new ≡ (after_image slot asked check image self.old).outcome.manager) }
+        ensures kept { IfOk result
+            (λ refusal. IsSome refusal → (self.new ≡ self.old) × (out.new ≡ out.old)) }
+        ensures packets { OnOk result
+            (out.new ≡ out.old
+            ++ packets_of (after_image slot asked check image self.old).outcome.sendings) }
+        ensures whole { OnOk result (AreFrames
+            (packets_of (after_image slot asked check image self.old).outcome.sendings)) }
+    {
+        let refusal = self.image_refusal();
+        if refusal.is_none() {
+            let order = Order {
+                slot,
+                size: image.bytes().len() as u32,
+                check: check_given(check, &image),
+            };
+            let command = start_command(&order, asked, &image);
+            self.job = Some(Stage::StartingImage {
+                order,
+                asked,
+                image,
+            });
+            self.send(Priority::Low, command, out)?;
+        }
+        Ok(refusal)
+    }
+}
+
+/// The check value that is given with an image: its own, where no other one is asked for.
+fn check_given(check: Option<u32>, image: &Image) -> u32
+    ensures value { result ≡ check_given check image.now }
+{
+    match check {
+        Some(check) => check,
+        None => crc_of(image.bytes()),
     }
 }

@@ -13,7 +13,7 @@ use olt_lanes::LaneTick;
 use omci_core::{NoMemory, Packets, Priority};
 
 impl Olt {
-    /// A second passes: for the high lane, then for the low one.
+    /// A second passes: for the high lane, then for the low one, and then for the job.
     #[tactic(auto, unfolding(manager_spec::specs::Steps::after_tick))]
     pub fn tick(&mut self, out: &mut Packets) -> Result<(), NoMemory>
         ensures manager { OnOk result (self.new ≡ (after_tick self.old).manager) }
@@ -23,6 +23,7 @@ impl Olt {
     {
         self.tick_lane(Priority::High, out)?;
         self.tick_lane(Priority::Low, out)?;
+        self.job_resumes(out)?;
         Ok(())
     }
 

@@ -1,6 +1,6 @@
 //! Reading orders: the header, the manager's lines, and the faults that orders have.
 
-use omci_core::{EntityId, Priority};
+use omci_core::{Bytes, EntityId, Priority};
 use replay_script::{Event, Orders, ScriptRefusal, read_orders};
 use std::alloc::{AllocError, Global};
 use std::test::*;
@@ -17,12 +17,18 @@ set high 2 0 8000 fF\n\
 delete low 272 5\n\
 resync\r\n\
 audit\n\
-check";
+check\n\
+image 1 0256 - 00fF\r\n\
+image 0 1 000000fF 00\n\
+commit low 01\n\
+activate high 1\n\
+reboot low";
 
 /// A line of each kind that scripts alone have.
-const LINES_OF_SCRIPTS: [&str; 11] = [
+const LINES_OF_SCRIPTS: [&str; 12] = [
     "deliver 0",
     "flow 1",
+    "cutin 0 1 old",
     "noise unit 00",
     "noise olt 00",
     "tick",
@@ -55,13 +61,14 @@ fn has_event(orders: &Orders, place: usize, wanted: &Event) -> bool {
     place < orders.len() && orders.event(place) == wanted
 }
 
-/// Whether the event at this place is a create or a set of these bytes.
+/// Whether the event at this place is a create, a set or an image of these bytes.
 fn has_values(orders: &Orders, place: usize, wanted: &[u8]) -> bool {
     if place >= orders.len() {
         return false;
     }
     match orders.event(place) {
         Event::Create { values, .. } | Event::Set { values, .. } => values.bytes() == wanted,
+        Event::Image { image, .. } => image.bytes() == wanted,
         _ => false,
     }
 }
@@ -81,7 +88,7 @@ fn one_order_is_read(rt: HostRuntime) -> Result<(), Fail> {
 fn numbers_of_lanes_are_read(rt: HostRuntime) -> Result<(), Fail> {
     let orders = read_orders(rt.alloc(), ORDERS.as_bytes())?;
     assert_eq!(rt; (orders.low(), orders.high()), (7, 32_767));
-    assert_eq!(rt; (orders.len(), orders.is_empty()), (9, false));
+    assert_eq!(rt; (orders.len(), orders.is_empty()), (14, false));
     let none = read_orders(rt.alloc(), b"orders 1 1 1")?;
     assert!(rt; none.is_empty());
     Ok(())
@@ -124,6 +131,35 @@ fn each_kind_of_order_is_read(rt: HostRuntime) -> Result<(), Fail> {
 }
 
 #[test]
+fn orders_of_images_are_read(rt: HostRuntime) -> Result<(), Fail> {
+    let alloc = rt.alloc();
+    let orders = read_orders(alloc, ORDERS.as_bytes())?;
+    let image = Event::Image {
+        slot: 0,
+        window: 1,
+        crc: Some(0xff),
+        image: Bytes::of(alloc, &[0])?,
+    };
+    let commit = Event::Commit {
+        lane: Priority::Low,
+        slot: 1,
+    };
+    let activate = Event::Activate {
+        lane: Priority::High,
+        slot: 1,
+    };
+    let reboot = Event::Reboot {
+        lane: Priority::Low,
+    };
+    assert!(rt; has_values(&orders, 9, &[0x00, 0xff]));
+    assert!(rt; has_event(&orders, 10, &image));
+    assert!(rt; has_event(&orders, 11, &commit));
+    assert!(rt; has_event(&orders, 12, &activate));
+    assert!(rt; has_event(&orders, 13, &reboot));
+    Ok(())
+}
+
+#[test]
 fn lines_of_scripts_are_unknown(rt: HostRuntime) -> Result<(), Fail> {
     for line in LINES_OF_SCRIPTS {
         let found = refusal(rt.alloc(), "orders 1 1 1\ncheck\n", line)?;
@@ -153,6 +189,12 @@ fn faults_of_orders(rt: HostRuntime) -> Result<(), Fail> {
         ("orders 1 1 1\n# \nget low 65536 0 80\n", (3, 2)),
         ("orders 1 1 1\nget low 2 0 80\n", (2, 3)),
         ("orders 1 1 1\ncheck\rcheck\n", (2, 1)),
+        ("orders 1 1 1\nimage 0 1 -\n", (2, 1)),
+        ("orders 1 1 1\nimage 0 257 - 00\n", (2, 2)),
+        ("orders 1 1 1\nimage 0 256 - -\n", (2, 3)),
+        ("orders 1 1 1\ncommit low 1\nactivate low 2\n", (3, 2)),
+        ("orders 1 1 1\nreboot low low\n", (2, 1)),
+        ("orders 1 1 1\ncutin x 0 -\n", (2, 1)),
     ];
     for (text, wanted) in rows {
         let found = refusal(rt.alloc(), text, "")?;

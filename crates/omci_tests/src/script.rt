@@ -1,7 +1,7 @@
 //! Reading and printing scripts: every kind of line, every kind of fault, and the ends of lines.
 
 use omci_core::{Bytes, EntityId, Priority};
-use replay_script::{Event, Script, ScriptRefusal, print, read};
+use replay_script::{CutPick, Event, Script, ScriptRefusal, print, read};
 use std::alloc::{AllocError, Global};
 use std::test::*;
 
@@ -32,6 +32,22 @@ cut unit\n\
 cut olt\n\
 start unit\n\
 start olt 00001 32767\n";
+
+/// Lines of software images, at the ends of their ranges.
+const IMAGES: &str = "omci 1 16 1 1 00\n\
+image 0 1 - 00\n\
+image 001 0256 fFfff1A0 00fFa0\r\n\
+image 0 256 00000000 ff\n\
+activate low 0\n\
+activate high 01\n\
+commit high 00\n\
+commit low 1\n\
+reboot low\n\
+reboot high\r\n\
+cutin 0 1 old\n\
+cutin 999999999999999999 1000 new\n\
+cutin 007 0500 Fa\n\
+cutin 7 500 00";
 
 /// A get of ONU data in 48 bytes, with the check value that it has to have.
 const FRAME: &str =
@@ -170,6 +186,144 @@ fn other_lines_are_read(rt: HostRuntime) -> Result<(), Fail> {
             }
         )
     );
+    Ok(())
+}
+
+/// A download into a slot.
+fn image_event(slot: u8, window: u16, crc: Option<u32>, image: Bytes) -> Event {
+    Event::Image {
+        slot,
+        window,
+        crc,
+        image,
+    }
+}
+
+/// A delivery in which the unit's power goes.
+fn cut_in(packet: u64, call: u64, pick: CutPick) -> Event {
+    Event::CutIn { packet, call, pick }
+}
+
+#[test]
+fn images_are_read(rt: HostRuntime) -> Result<(), Fail> {
+    let alloc = rt.alloc();
+    let script = read(alloc, IMAGES.as_bytes())?;
+    let zero = Bytes::of(alloc, &[0])?;
+    let three = Bytes::of(alloc, &[0, 0xff, 0xa0])?;
+    let ones = Bytes::of(alloc, &[0xff])?;
+    assert_eq!(rt; script.len(), 13);
+    assert!(rt; has_event(&script, 0, &image_event(0, 1, None, zero)));
+    assert!(rt; has_event(&script, 1, &image_event(1, 256, Some(0xffff_f1a0), three)));
+    assert!(rt; has_event(&script, 2, &image_event(0, 256, Some(0), ones)));
+    Ok(())
+}
+
+#[test]
+fn lines_of_slots_are_read(rt: HostRuntime) -> Result<(), Fail> {
+    let script = read(rt.alloc(), IMAGES.as_bytes())?;
+    let lane = Priority::Low;
+    let high = Priority::High;
+    assert!(rt; has_event(&script, 3, &Event::Activate { lane, slot: 0 }));
+    assert!(rt;
+        has_event(
+            &script,
+            4,
+            &Event::Activate {
+                lane: high,
+                slot: 1
+            }
+        )
+    );
+    assert!(rt;
+        has_event(
+            &script,
+            5,
+            &Event::Commit {
+                lane: high,
+                slot: 0
+            }
+        )
+    );
+    assert!(rt; has_event(&script, 6, &Event::Commit { lane, slot: 1 }));
+    assert!(rt; has_event(&script, 7, &Event::Reboot { lane }));
+    assert!(rt; has_event(&script, 8, &Event::Reboot { lane: high }));
+    Ok(())
+}
+
+#[test]
+fn cuts_amid_a_delivery_are_read(rt: HostRuntime) -> Result<(), Fail> {
+    let script = read(rt.alloc(), IMAGES.as_bytes())?;
+    let last = 999_999_999_999_999_999;
+    assert!(rt; has_event(&script, 9, &cut_in(0, 1, CutPick::Old)));
+    assert!(rt; has_event(&script, 10, &cut_in(last, 1_000, CutPick::New)));
+    assert!(rt; has_event(&script, 11, &cut_in(7, 500, CutPick::Byte(0xfa))));
+    assert!(rt; has_event(&script, 12, &cut_in(7, 500, CutPick::Byte(0))));
+    Ok(())
+}
+
+#[test]
+fn faults_of_lines_of_images(rt: HostRuntime) -> Result<(), Fail> {
+    let rows = [
+        ("image", 1),
+        ("image 0 1 -", 1),
+        ("image 0 1 - 00 00", 1),
+        ("image low 2 1 - 00", 1),
+        ("images 0 1 - 00", 1),
+        ("activate low", 1),
+        ("activate 2", 1),
+        ("activate 0 low", 1),
+        ("activate low 0 0", 1),
+        ("commit 1", 1),
+        ("commit medium 2", 1),
+        ("commit low 0 0", 1),
+        ("reboot", 1),
+        ("reboot unit", 1),
+        ("reboot low 0", 1),
+        ("cut in 0 1 old", 1),
+        ("cutin 0 1", 1),
+        ("cutin x 0 old new", 1),
+        ("image 2 1 - 00", 2),
+        ("image low 1 - 00", 2),
+        ("image 0 0 - 00", 2),
+        ("image 0 257 - 00", 2),
+        ("image 0 - - 00", 2),
+        ("image 0 257 x x", 2),
+        ("activate low 2", 2),
+        ("activate high -", 2),
+        ("commit high 2", 2),
+        ("commit low 0x1", 2),
+        ("cutin - 1 old", 2),
+        ("cutin 1000000000000000000 1 old", 2),
+        ("cutin 0 0 old", 2),
+        ("cutin 0 1001 old", 2),
+        ("cutin 0 old x", 2),
+        ("image 0 1 0 00", 3),
+        ("image 0 1 fffff1a 00", 3),
+        ("image 0 1 0fffff1a0 00", 3),
+        ("image 0 1 fffff1ag 00", 3),
+        ("image 0 1 -- 00", 3),
+        ("image 0 1 ffff - ", 1),
+        ("image 0 1 ffff -", 3),
+        ("image 0 1 - -", 3),
+        ("image 0 1 - ", 3),
+        ("image 0 1 - 000", 3),
+        ("image 0 1 - 0g", 3),
+        ("cutin 0 1 ", 3),
+        ("cutin 0 1 -", 3),
+        ("cutin 0 1 OLD", 3),
+        ("cutin 0 1 olds", 3),
+        ("cutin 0 1 byte", 3),
+        ("cutin 0 1 a", 3),
+        ("cutin 0 1 a5a5", 3),
+        ("cutin 0 1 a5a", 3),
+        ("cutin 0 1 ag", 3),
+    ];
+    for (text, reason) in rows {
+        let first = refusal(rt.alloc(), HEADER, text, "\ntick tock\n")?;
+        assert_eq!(rt; first, (2, reason), "{text:?}");
+        let last = refusal(rt.alloc(), HEADER, "# a note\r\n\nflow 1\n", text)?;
+        assert_eq!(rt; last, (5, reason), "{text:?}");
+    }
     Ok(())
 }
 
@@ -388,5 +542,27 @@ cut olt\n\
 start unit\n\
 start olt 1 32767\n";
     assert_eq!(rt; others.as_slice(), wanted.as_bytes());
+    Ok(())
+}
+
+#[test]
+fn lines_of_images_are_printed(rt: HostRuntime) -> Result<(), Fail> {
+    let alloc = rt.alloc();
+    let text = print(alloc, &read(alloc, IMAGES.as_bytes())?)?;
+    let wanted = "omci 1 16 1 1 00\n\
+image 0 1 - 00\n\
+image 1 256 fffff1a0 00ffa0\n\
+image 0 256 00000000 ff\n\
+activate low 0\n\
+activate high 1\n\
+commit high 0\n\
+commit low 1\n\
+reboot low\n\
+reboot high\n\
+cutin 0 1 old\n\
+cutin 999999999999999999 1000 new\n\
+cutin 7 500 fa\n\
+cutin 7 500 00\n";
+    assert_eq!(rt; text.as_slice(), wanted.as_bytes());
     Ok(())
 }

@@ -18,7 +18,7 @@ use Rattle.omci_top.specs.declared.status.Status.{Status}
 use Rattle.omci_top.specs.declared.status.Status.TheVariants.{Done, Usage, Input, ReadFault, WriteFault, DiskFault, TooLong, NoMemory, TooLarge}
 use Rattle.link_replay.specs.Seen.{State}
 use Rattle.link_replay.specs.Writing.{WritesFront}
-use Rattle.omci_top.specs.Answers.{Ran, Told, Ends, AnswersReplay, world_after}
+use Rattle.omci_top.specs.Answers.{Ran, Told, Ends, AnswersReplay, StandsAfter}
 
 pub answer_to_script : (input : List ℕ) (script : Script) → reading input ≡ Ok script → answer_to input ≡ trace script
 unfolding answer_to
@@ -29,7 +29,7 @@ unfolding answer_to
 answer_to_fault input place reason e = ap answer_of e
 
 -- a script was run
-pub Ends-ran : (s : Status) (world : Option State) (script : Script) (input : List ℕ) (before now : Option (List ℕ)) (faults_before faults_now : ℕ) → Writes script input → answer_to input ≡ trace script → (s ≡ Done → world ≡ Some (world_after script)) → Ran s (trace script) before now faults_before faults_now → Ends s world input before now faults_before faults_now
+pub Ends-ran : (s : Status) (world : Option State) (script : Script) (input : List ℕ) (before now : Option (List ℕ)) (faults_before faults_now : ℕ) → Writes script input → answer_to input ≡ trace script → (s ≡ Done → StandsAfter script world) → Ran s (trace script) before now faults_before faults_now → Ends s world input before now faults_before faults_now
 Ends-ran Done world script input before now fb fn spelled is ended ran = ((script, spelled, ran.0, ended refl), ran.1)
 Ends-ran Usage world script input before now fb fn spelled is ended ran = elim ran [ ]
 Ends-ran (Input place reason) world script input before now fb fn spelled is ended ran = elim ran [ ]

@@ -1,5 +1,5 @@
 -- What each answer of the top call says of the source and of the sink.
-use Rattle.std.specs.Prelude.{ℕ, ◌≡◌, ◌⊎◌, List, [], Option, Some}
+use Rattle.std.specs.Prelude.{ℕ, ◌≡◌, ◌⊎◌, List, [], Option, Some, None}
 use Rattle.std.specs.Io.KnownBytes.{Appends}
 use Rattle.omci_core.specs.Causes.{Rose}
 use Rattle.script_spec.specs.Script.{Script}
@@ -11,7 +11,7 @@ use Rattle.history_spec.specs.History.{Once, Answered, SyncedRight, AuditedRight
 use Rattle.world_spec.specs.History.{history_of}
 use Rattle.step_laws.specs.InStep.{ScriptInStep}
 use Rattle.omci_top.specs.Streams.{ReadsWhole, ReadsPast}
-use Rattle.link_replay.specs.Seen.{State, sound, seen_of}
+use Rattle.link_replay.specs.Seen.{State, WorldStands}
 use Rattle.link_replay.specs.Writing.{WritesFront}
 use Rattle.omci_top.specs.Texts.{input_text, answer_to}
 use Rattle.omci_top.specs.declared.status.Status.{Status}
@@ -29,9 +29,10 @@ status_number TooLong = 8
 status_number NoMemory = 9
 status_number TooLarge = 10
 
--- the world that ran all events of a script: it stands for the machine's nodes after them
-abbrev pub world_after : Script → State
-world_after script = sound (seen_of (nodes_after script.actions (first_nodes script.header)))
+-- a world that ran all events of a script stands for the machine's nodes after them
+abbrev pub StandsAfter : Script → Option State → Type 0
+StandsAfter script None = ⊥
+StandsAfter script (Some world) = WorldStands world (nodes_after script.actions (first_nodes script.header))
 
 -- What writing a whole text comes to, by the answer of the run: all of it, or a front of it.
 abbrev pub Ran : Status → List ℕ → Option (List ℕ) → Option (List ℕ) → ℕ → ℕ → Type 0
@@ -53,7 +54,7 @@ Told _ place reason before now faults_before faults_now = ⊥
 -- What a run on an input comes to at the sink, by its answer. No other answer comes.
 abbrev pub Ends : Status → Option State → List ℕ → Option (List ℕ) → Option (List ℕ) → ℕ → ℕ → Type 0
 Ends Done world input before now faults_before faults_now =
-    ((script : Script) × Writes script input × Appends before now (trace script) × (world ≡ Some (world_after script))) × (faults_now ≡ faults_before)
+    ((script : Script) × Writes script input × Appends before now (trace script) × StandsAfter script world) × (faults_now ≡ faults_before)
 Ends (Input place reason) world input before now faults_before faults_now =
     (fault input ≡ Some (place, reason)) × Appends before now (input_text place reason) × (faults_now ≡ faults_before)
 Ends NoMemory world input before now faults_before faults_now =
@@ -73,7 +74,7 @@ pub record Replays (world : Option State) (left_before left_now written_before w
   pub read : ReadsWhole 16777216 left_before left_now input
   pub spelled : Writes script input
   pub traced : Appends written_before written_now (trace script)
-  pub ended : world ≡ Some (world_after script)
+  pub ended : StandsAfter script world
   pub once : Once (history_of script.header script.actions)
   pub answered : Answered (history_of script.header script.actions)
   pub synced : SyncedRight (history_of script.header script.actions)

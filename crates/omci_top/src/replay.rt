@@ -5,7 +5,7 @@ ghost use Rattle.std.specs.Io.KnownBytes.{Appends};
 ghost use Rattle.world_spec.specs.Trace.{trace};
 ghost use Rattle.link_replay.specs.Writing.{WritesFront, EndsRun};
 ghost use Rattle.omci_top.specs.Texts.{input_text};
-ghost use Rattle.omci_top.specs.Answers.{Ran, Told, Ends, AnswersReplay, world_after};
+ghost use Rattle.omci_top.specs.Answers.{Ran, Told, Ends, AnswersReplay, StandsAfter};
 
 use crate::status::Status;
 use crate::streams::{InputFault, read_whole};
@@ -66,7 +66,7 @@ fn refuse<K: Sink>(alloc: Global, place: u64, reason: u8, sink: &mut K) -> Resul
 
 /// Runs a script over both ends, writes its trace, and gives the world that ran it.
 fn run<K: Sink>(alloc: Global, script: &Script, sink: &mut K) -> Result<World, RunFault>
-    ensures ended { IfOk result (λ world. world ≡ world_after script.now) }
+    ensures ended { IfOk result (λ world. StandsAfter script.now (Some world)) }
     ensures traced { OnOk result
         (Appends (K.written sink.old) (K.written sink.new) (trace script.now)) }
     ensures kept { OnOk result (K.faults sink.new ≡ K.faults sink.old) }
@@ -81,7 +81,7 @@ fn run<K: Sink>(alloc: Global, script: &Script, sink: &mut K) -> Result<World, R
 
 /// Runs a script and writes its trace.
 fn run_script<K: Sink>(alloc: Global, script: &Script, sink: &mut K) -> Replayed
-    ensures ended { result.status ≡ Status.Done → result.world ≡ Some (world_after script.now) }
+    ensures ended { result.status ≡ Status.Done → StandsAfter script.now result.world }
     ensures no_world { result.status ≢ Status.Done → result.world ≡ None }
     ensures ran { Ran result.status (trace script.now)
         (K.written sink.old) (K.written sink.new) (K.faults sink.old) (K.faults sink.new) }

@@ -1,2 +1,5 @@
-pub mod Replies
+pub mod Asked
+pub mod Beginning
+pub mod Coming
 pub mod Measured
+pub mod Replies

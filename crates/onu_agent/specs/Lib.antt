@@ -1,1 +1,4 @@
+pub mod Images
+pub mod Received
+pub mod Starts
 pub mod State

@@ -47,8 +47,8 @@ impl Alarms {
         self.log.len()
     }
 
-    /// The entity's alarms are these from now on. The notice of it is none where they were these before. It takes memory for
-    /// an entity that has its first alarm.
+    /// The entity's alarms are these from now on. The notice of it is none where they were these
+    /// before. It takes memory for an entity that has its first alarm.
     pub fn change(
         &mut self,
         entity: EntityId,

@@ -2,7 +2,8 @@
 
 ghost use Rattle.std.specs.Prelude.{◌≡◌};
 ghost use Rattle.message_spec.specs.Reading.{ResponseWindow};
-ghost use Rattle.unit_spec.specs.Onu.{response_frame, refusal_frame, asks_nothing, has_request_bits};
+ghost use Rattle.unit_spec.specs.Onu.{response_frame, refusal_frame, asks_nothing};
+ghost use Rattle.unit_spec.specs.Onu.{has_request_bits};
 
 use omci_contents::{Message, Request, Response, write_message};
 use omci_core::Code;

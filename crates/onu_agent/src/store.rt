@@ -4,8 +4,10 @@ ghost use Rattle.std.specs.Prelude.{◌≡◌, ◌≢◌, ◌≤◌, true, lengt
 ghost use Rattle.message_spec.specs.declared.Response.TheVariants as response;
 ghost use Rattle.class_spec.specs.declared.TheConstants.{SET_ROOM};
 ghost use Rattle.mib_spec.specs.declared.Sensed.TheVariants.{Changed};
-ghost use Rattle.mib_spec.specs.Database.{first};
-ghost use Rattle.mib_spec.specs.Requests.{unless_refused, create_code, create_outcome, delete_outcome, set_outcome, get_outcome, reset_code, reset as reset_of, sense_outcome};
+ghost use Rattle.mib_spec.specs.Database.{first, with_software, with_counter_grown};
+ghost use Rattle.mib_spec.specs.Requests.{unless_refused, create_code, create_outcome};
+ghost use Rattle.mib_spec.specs.Requests.{delete_outcome, set_outcome, get_outcome, reset_code};
+ghost use Rattle.mib_spec.specs.Requests.{reset as reset_of, sense_outcome};
 ghost use Rattle.unit_spec.specs.Onu.{code};
 ghost use Rattle.unit_spec.specs.Noticing.{has_alarms, may_alarm};
 ghost use Rattle.unit_laws.specs.Own.{may_have};
@@ -135,6 +137,14 @@ impl Store {
         }
         self.mib.reset();
         Code::SUCCESS
+    }
+
+    /// The counter grows, and the software images are shown so from now on.
+    pub fn count(&mut self, software: Software)
+        ensures counted { self.new ≡ with_counter_grown (with_software software self.old) }
+    {
+        self.mib.software(software);
+        self.mib.grow();
     }
 
     /// Takes a value that the unit measured. A change has an attribute's number, and fits a notice.

@@ -1,88 +1,80 @@
-//! The unit itself: its database, for each priority the reply that it gave last, its alarms, and what it put by for an upload
-//! and for an audit.
+//! The unit itself: what it holds, its store of software images, and how it starts again where it
+//! leaves.
 
-ghost use Rattle.std.specs.Prelude.{◌≡◌, ◌≢◌, ◌≤◌, length, Bool, true, Option, option_copied, IfOk, OnOk, OnErr, is_some, Some, None, Ok, []};
-ghost use Rattle.frame_spec.specs.Baseline.{spelling};
+ghost use Rattle.std.specs.Prelude.{◌≡◌, ◌≢◌, ◌≤◌, ◌⊎◌, length, [], true, Ok, Some, None, IfOk};
+ghost use Rattle.std.specs.Prelude.{OnOk, OnErr, is_some};
 ghost use Rattle.message_spec.specs.declared.Message.TheVariants as message;
-ghost use Rattle.retry_spec.specs.Kept.{kept_for, kept_with};
+ghost use Rattle.message_spec.specs.Reading.{HasWindow, RequestWindow};
+ghost use Rattle.retry_spec.specs.Kept.{kept_for};
+ghost use Rattle.slot_spec.specs.Rig.{IsTrap, Rigged};
+ghost use Rattle.store_spec.specs.Deeds.{Ignore};
+ghost use Rattle.store_spec.specs.State.{software_of};
 ghost use Rattle.unit_spec.specs.declared.Did.TheVariants as did;
 ghost use Rattle.unit_spec.specs.declared.Noticed.TheVariants as noticed;
 ghost use Rattle.unit_spec.specs.Noticing.{onu_sensed, onu_alarmed, alarm_takes};
-ghost use Rattle.unit_spec.specs.Onu.{onu_started, onu_received, onu_ticked, answer, upload, next_piece, fresh_again, second_older, get_alarms, next_row, alarms_fresh_again, alarms_second_older, not_supported, asks_nothing, take_request, keep_reply, for_message, unless_quiet, if_request, has_request_bits, takes_room, message_takes, takes_memory};
-ghost use Rattle.onu_agent.specs.State.{reception, noticing};
+ghost use Rattle.unit_spec.specs.Onu.{Onu, answer, reboot, image_deed, deed_unless_kept};
+ghost use Rattle.unit_spec.specs.Onu.{for_message, message_deed, message_takes, takes_memory};
+ghost use Rattle.unit_spec.specs.Onu.{unless_quiet, asks_nothing, take_section, if_request};
+ghost use Rattle.unit_spec.specs.Onu.{has_request_bits, takes_room, onu_ticked};
+ghost use Rattle.image_store.specs.declared.state.State.{State as Form};
+ghost use Rattle.image_store.specs.Stands.{state_disk};
+ghost use Rattle.onu_agent.specs.State.{UnitStands, Tells};
+ghost use Rattle.onu_agent.specs.Received.{Came, Received, CarriedOut};
+ghost use Rattle.onu_agent.specs.Images.{is_for_image};
 
-use crate::alarms::Alarms;
-use crate::audit::Audit;
-use crate::notices::{give_notice, value_notice};
+use crate::deed::{Deed, plain_deed};
+use crate::desk::Desk;
+use crate::images::{
+    code_of, image_note, image_response, leaving_after, quiet_did, reboot_code, slot_of,
+};
 use crate::requests::{is_quiet, is_request, refusal_of, response_to};
-use crate::store::Store;
-use crate::upload::Upload;
-use alarm_spec::{BITMAP_BYTES, ROW_BYTES};
-use mib_spec::Sensed;
+use alarm_spec::BITMAP_BYTES;
+use image_store::Store as Images;
 use omci_contents::{ContentsFault, Message, Request, Response, read_message};
-use omci_core::{EntityId, NoMemory, Packet, Software};
-use omci_frames::{Frame, encode, packet_frame};
-use retry_cache::Kept;
-use std::alloc::Global;
+use omci_core::{Boot, Code, EntityId, NoMemory, Packet, Software};
+use omci_frames::{Frame, packet_frame};
+use slot_disk::{Disk, Rig, Trap};
 use std::marker::Model;
 use unit_spec::{Did, Note, Noticed};
 
+/// [`Agent`](crate::Agent) holds it, and each of its calls may change it.
 #[derive(Drop)]
-pub struct Unit {
-    alloc: Global,
-    store: Store,
-    kept: Kept,
-    upload: Option<Upload>,
-    alarms: Alarms,
-    audit: Option<Audit>,
+pub struct Unit<D: Disk> {
+    desk: Desk,
+    images: Images<D>,
+    leaving: Option<Boot>,
 }
 
-/// What carrying a request out came to: the response's frame, and what else is told of it.
-#[derive(Clone, Copy)]
-struct Deed {
-    reply: Frame,
-    note: Option<Note>,
+impl<D: Disk> Model for Unit<D> {
+    ghost use Rattle.onu_agent.specs.State.{Held};
+
+    ghost Value = { Held D };
+
+    ghost view = { λ u. record { desk = u.desk; images = u.images; leaving = u.leaving } };
 }
 
-impl Model for Unit {
-    ghost use Rattle.unit_spec.specs.Onu.{Onu};
-    ghost use Rattle.onu_agent.specs.State.{AreFrames};
-
-    ghost Value = { Onu };
-
-    ghost view = { λ u. record {
-      database = u.store;
-      kept = u.kept;
-      snapshot = u.upload;
-      log = u.alarms;
-      alarm_snapshot = u.audit;
-    } };
-
-    ghost invariant = { λ u. AreFrames u.kept };
-}
-
-impl Unit {
-    /// A unit that starts with this software: the first database, nothing kept, no alarms, and nothing put by.
-    #[tactic(auto, unfolding(unit_spec::specs::Onu::onu_started))]
-    pub fn start(alloc: Global, software: Software) -> Result<Unit, NoMemory>
-        ensures started { IfOk result (λ u. u ≡ onu_started software) }
+impl<D: Disk> Unit<D> {
+    /// A unit that starts with these images, of which it shows the software.
+    pub fn start(desk: Desk, images: Images<D>) -> Unit<D>
+        ensures value { result ≡ record { desk = desk; images = images; leaving = None } }
     {
-        Ok(Unit {
-            alloc,
-            store: Store::start(alloc, software)?,
-            kept: Kept::new(),
-            upload: None,
-            alarms: Alarms::new(alloc),
-            audit: None,
-        })
+        Unit {
+            desk,
+            images,
+            leaving: None,
+        }
     }
 
     /// Takes a packet from the link. `out` is the reply, and empty where there is none.
-    #[tactic(auto, unfolding(unit_spec::specs::Onu::onu_received, unit_spec::specs::Onu::takes_memory))]
+    #[tactic(auto, unfolding(unit_spec::specs::Onu::onu_received, unit_spec::specs::Onu::packet_deed, unit_spec::specs::Onu::takes_memory))]
     pub fn packet(&mut self, bytes: &[u8], out: &mut Packet) -> Result<Did, NoMemory>
-        ensures received { IfOk result (λ d. reception self.new d out.new ≡ onu_received bytes.now self.old) }
-        ensures whole { IfOk result (λ d. d ≢ did.Dropped → length out.new ≡ 48) }
-        ensures memory { OnErr result (takes_memory bytes.now self.old ≡ true) }
+        ensures received { (u : Onu) → UnitStands D.seen D.may_leave self.old u → IfOk result (λ d.
+            Received D.seen D.may_leave D.clock D.left_since D.rig D.faults self.old self.new d
+            out.new bytes.now u) }
+        ensures whole { IfOk result (λ d. d ≢ did.Dropped → d ≢ did.Held → length out.new ≡ 48) }
+        ensures memory { (u : Onu) → UnitStands D.seen D.may_leave self.old u
+            → OnErr result (takes_memory bytes.now u ≡ true) }
+        ensures images { OnErr result (self.new.images ≡ self.old.images) }
     {
         match packet_frame(bytes) {
             None => Ok(drop_packet(out)),
@@ -97,265 +89,273 @@ impl Unit {
         frame: &Frame,
         out: &mut Packet,
     ) -> Result<Did, NoMemory>
-        ensures received { IfOk result (λ d. reception self.new d out.new ≡ for_message read.now frame.now self.old) }
-        ensures whole { IfOk result (λ d. d ≢ did.Dropped → length out.new ≡ 48) }
-        ensures memory { OnErr result (message_takes read.now frame.now self.old ≡ true) }
+        requires window { IfOk read.now HasWindow }
+        ensures came { (u : Onu) → UnitStands D.seen D.may_leave self.old u → IfOk result (λ d.
+            Came D.seen D.may_leave D.clock D.left_since D.rig D.faults self.old self.new d out.new
+            (λ fails. for_message fails read.now frame.now u)
+            (message_deed read.now frame.now u) u) }
+        ensures whole { IfOk result (λ d. d ≢ did.Dropped → d ≢ did.Held → length out.new ≡ 48) }
+        ensures memory { (u : Onu) → UnitStands D.seen D.may_leave self.old u
+            → OnErr result (message_takes read.now frame.now u ≡ true) }
+        ensures images { OnErr result (self.new.images ≡ self.old.images) }
     {
         match read {
             Ok(Message::Asked { request, .. }) => self.request(request, frame, out),
             Err(ContentsFault::UnknownType { .. }) => Ok(self.unknown(frame, out)),
-            Ok(Message::Answered { .. })
-            | Ok(Message::Told { .. })
-            | Err(ContentsFault::Bits { .. }) => Ok(drop_packet(out)),
+            Ok(Message::Answered { .. }) => Ok(drop_packet(out)),
+            Ok(Message::Told { .. }) => Ok(drop_packet(out)),
+            Err(ContentsFault::Bits { .. }) => Ok(drop_packet(out)),
         }
     }
 
-    /// Takes a request: one that asks for a reply is answered by its kept reply, or carried out.
-    #[tactic(auto, unfolding(unit_spec::specs::Onu::take_request))]
+    /// Takes a request: one that asks for a reply is answered by its kept reply, or carried out. A
+    /// unit that leaves does no more than give kept replies.
     fn request(
         &mut self,
         request: &Request,
         frame: &Frame,
         out: &mut Packet,
     ) -> Result<Did, NoMemory>
-        ensures received { IfOk result (λ d. reception self.new d out.new
-            ≡ unless_quiet (asks_nothing request.now) frame.now request.now self.old) }
-        ensures whole { IfOk result (λ d. d ≢ did.Dropped → length out.new ≡ 48) }
-        ensures memory { OnErr result (message_takes (Ok (message.Asked frame.now.tci frame.now.entity request.now)) frame.now self.old ≡ true) }
+        requires window { RequestWindow request.now }
+        ensures came { (u : Onu) → UnitStands D.seen D.may_leave self.old u → IfOk result (λ d.
+            Came D.seen D.may_leave D.clock D.left_since D.rig D.faults self.old self.new d out.new
+            (λ fails. unless_quiet (asks_nothing request.now) fails frame.now request.now u)
+            (deed_unless_kept (kept_for frame.now.tci u.kept) u.leaving
+            (image_deed frame.now request.now u)) u) }
+        ensures whole { IfOk result (λ d. d ≢ did.Dropped → d ≢ did.Held → length out.new ≡ 48) }
+        ensures memory { (u : Onu) → UnitStands D.seen D.may_leave self.old u → OnErr result
+            (message_takes (Ok (message.Asked frame.now.tci frame.now.entity request.now))
+            frame.now u ≡ true) }
+        ensures images { OnErr result (self.new.images ≡ self.old.images) }
     {
         if is_quiet(request) {
-            return Ok(drop_packet(out));
+            return Ok(self.section(request, frame, out));
         }
-        if self.give_again(frame.tci, out) {
+        if self.desk.give_again(frame.tci, out) {
             return Ok(Did::Kept);
         }
+        if self.leaves() {
+            return Ok(drop_packet(out));
+        }
         let deed = self.carry_out(frame, request)?;
-        self.give(frame.tci, &deed.reply, out);
+        self.desk.give(frame.tci, &deed.reply, out);
         Ok(Did::Carried { note: deed.note })
     }
 
-    /// Takes a frame of an unknown type, which is a request where its type byte has the bits of one.
-    #[tactic(auto, unfolding(unit_spec::specs::Onu::take_request))]
+    /// Takes a section that isn't its window's last: it is held, or dropped.
+    fn section(&mut self, request: &Request, frame: &Frame, out: &mut Packet) -> Did
+        requires quiet { asks_nothing request.now ≡ true }
+        ensures came { (u : Onu) → UnitStands D.seen D.may_leave self.old u
+            → Came D.seen D.may_leave D.clock D.left_since D.rig D.faults self.old self.new result
+            out.new (λ fails. take_section fails frame.now request.now u)
+            (deed_unless_kept (kept_for frame.now.tci u.kept) u.leaving
+            (image_deed frame.now request.now u)) u }
+        ensures did { (result ≡ did.Dropped) ⊎ (result ≡ did.Held) }
+    {
+        if self.desk.keeps(frame.tci) {
+            return drop_packet(out);
+        }
+        if self.leaves() {
+            return drop_packet(out);
+        }
+        out.clear();
+        quiet_did(self.images.carry(frame.tci, frame.entity, request))
+    }
+
+    /// Takes a frame of an unknown type, which is a request where its type byte has the bits of
+    /// one.
     fn unknown(&mut self, frame: &Frame, out: &mut Packet) -> Did
-        ensures received { reception self.new result out.new ≡ if_request (has_request_bits frame.now.kind) frame.now self.old }
+        ensures came { (u : Onu) → UnitStands D.seen D.may_leave self.old u
+            → Came D.seen D.may_leave D.clock D.left_since D.rig D.faults self.old self.new result
+            out.new (λ fails. if_request (has_request_bits frame.now.kind) frame.now u) Ignore u }
         ensures whole { result ≢ did.Dropped → length out.new ≡ 48 }
     {
         if !is_request(frame.kind) {
             return drop_packet(out);
         }
-        if self.give_again(frame.tci, out) {
+        if self.desk.give_again(frame.tci, out) {
             return Did::Kept;
         }
-        self.give(frame.tci, &refusal_of(frame), out);
+        if self.leaves() {
+            return drop_packet(out);
+        }
+        self.desk.give(frame.tci, &refusal_of(frame), out);
         Did::Carried { note: None }
     }
 
-    /// Gives the kept reply to the request of this TCI, where there is one.
-    #[tactic(auto, using(crate::proofs::Replies::given_whole))]
-    fn give_again(&self, tci: u16, out: &mut Packet) -> bool
-        ensures found { result ≡ is_some (kept_for tci self.now.kept) }
-        ensures given { result ≡ true → kept_for tci self.now.kept ≡ Some out.new }
-        ensures whole { result ≡ true → length out.new ≡ 48 }
-    {
-        match self.kept.find(tci) {
-            None => false,
-            Some(reply) => {
-                out.put(reply);
-                true
-            }
-        }
-    }
-
-    /// Gives a reply, and keeps it under its request's TCI.
-    #[tactic(auto, using(crate::proofs::Replies::kept_whole))]
-    fn give(&mut self, tci: u16, reply: &Frame, out: &mut Packet)
-        ensures kept { self.new ≡ record self.old { kept = kept_with tci (spelling reply.now) self.old.kept } }
-        ensures given { out.new ≡ spelling reply.now }
-        ensures whole { length out.new ≡ 48 }
-    {
-        let mut bytes = [0; 48];
-        encode(reply, &mut bytes);
-        self.kept.keep(tci, &bytes);
-        out.put(&bytes);
-    }
-
     /// Carries a request out.
-    #[tactic(auto, unfolding(unit_spec::specs::Onu::answer))]
     fn carry_out(&mut self, frame: &Frame, request: &Request) -> Result<Deed, NoMemory>
-        ensures reply { IfOk result (λ deed. deed.reply ≡ (answer frame.now request.now self.old).reply) }
-        ensures note { IfOk result (λ deed. deed.note ≡ (answer frame.now request.now self.old).note) }
-        ensures after { OnOk result (self.new ≡ (answer frame.now request.now self.old).unit) }
-        ensures memory { OnErr result (takes_room frame.now request.now self.old.database ≡ true) }
+        requires window { RequestWindow request.now }
+        ensures carried { (u : Onu) → UnitStands D.seen D.may_leave self.old u
+            → IfOk result (λ deed. CarriedOut D.seen D.may_leave D.clock D.left_since D.rig D.faults self.old self.new
+            deed.reply deed.note (λ fails. answer fails frame.now request.now u)
+            (image_deed frame.now request.now u) u) }
+        ensures memory { OnErr result
+            (takes_room frame.now request.now self.old.desk.database ≡ true) }
+        ensures images { OnErr result (self.new.images ≡ self.old.images) }
     {
-        let response = match request {
-            Request::Upload => return self.put_by(frame),
-            Request::UploadNext { number } => Response::UploadNext {
-                piece: self.next_piece(*number),
-            },
-            Request::Alarms { .. } => return self.put_alarms_by(frame),
-            Request::AlarmsNext { number } => Response::AlarmsNext {
-                row: self.next_row(*number),
-            },
-            Request::Create { values } => self.store.create(frame.entity, values)?,
-            Request::Delete => self.store.delete(frame.entity),
-            Request::Set { mask, values } => self.store.set(frame.entity, *mask, values),
-            Request::Get { mask } => self.store.get(frame.entity, *mask),
-            Request::Reset => Response::Reset {
-                code: self.store.reset(frame.entity),
-            },
-            _ => return Ok(plain_deed(refusal_of(frame))),
-        };
-        Ok(plain_deed(response_to(frame, response)))
-    }
-
-    /// Puts the database by for an upload. What was put by before is dropped.
-    fn put_by(&mut self, frame: &Frame) -> Result<Deed, NoMemory>
-        ensures reply { IfOk result (λ deed. deed.reply ≡ (upload frame.now self.old).reply) }
-        ensures note { IfOk result (λ deed. deed.note ≡ (upload frame.now self.old).note) }
-        ensures after { OnOk result (self.new ≡ (upload frame.now self.old).unit) }
-    {
-        let taken = Upload::of(self.alloc, self.store.mib())?;
-        let response = Response::Upload {
-            count: taken.count(),
-        };
-        let note = Some(taken.note());
-        self.upload = Some(taken);
-        Ok(Deed {
-            reply: response_to(frame, response),
-            note,
-        })
-    }
-
-    /// The piece of that number of what was put by, or zeros.
-    fn next_piece(&mut self, number: u16) -> [u8; 32]
-        ensures value { result ≡ next_piece number self.old.snapshot }
-        ensures after { self.new ≡ record self.old { snapshot = fresh_again self.old.snapshot } }
-    {
-        match &mut self.upload {
-            Some(upload) => upload.piece(number),
-            None => [0; 32],
+        match request {
+            Request::Start { .. }
+            | Request::Section { .. }
+            | Request::End { .. }
+            | Request::Activate { .. }
+            | Request::Commit => Ok(self.carry_image(frame, request)),
+            Request::Reboot { .. } => Ok(self.reboot(frame)),
+            Request::Create { .. }
+            | Request::Delete
+            | Request::Set { .. }
+            | Request::Get { .. }
+            | Request::Alarms { .. }
+            | Request::AlarmsNext { .. }
+            | Request::Upload
+            | Request::UploadNext { .. }
+            | Request::Reset => self.desk.carry_out(frame, request),
         }
     }
 
-    /// Puts the alarms by for an audit. What was put by before is dropped.
-    fn put_alarms_by(&mut self, frame: &Frame) -> Result<Deed, NoMemory>
-        ensures reply { IfOk result (λ deed. deed.reply ≡ (get_alarms frame.now self.old).reply) }
-        ensures note { IfOk result (λ deed. deed.note ≡ (get_alarms frame.now self.old).note) }
-        ensures after { OnOk result (self.new ≡ (get_alarms frame.now self.old).unit) }
+    /// Carries a request for a software image out.
+    fn carry_image(&mut self, frame: &Frame, request: &Request) -> Deed
+        requires asks { is_for_image request.now ≡ true }
+        requires window { RequestWindow request.now }
+        ensures carried { (u : Onu) → UnitStands D.seen D.may_leave self.old u
+            → CarriedOut D.seen D.may_leave D.clock D.left_since D.rig D.faults self.old self.new
+            result.reply result.note (λ fails. answer fails frame.now request.now u)
+            (image_deed frame.now request.now u) u }
     {
-        let taken = Audit::of(&mut self.alarms)?;
-        let rows = taken.count();
-        self.audit = Some(taken);
-        Ok(Deed {
-            reply: response_to(frame, Response::Alarms { count: rows }),
-            note: Some(Note::Alarms { rows }),
-        })
+        let slot = slot_of(frame.entity);
+        let handled = self.images.carry(frame.tci, frame.entity, request);
+        let software = self.images.software();
+        self.desk.handled(handled, software);
+        self.leaving = leaving_after(handled, slot, self.leaving);
+        Deed {
+            reply: response_to(frame, image_response(request, code_of(handled))),
+            note: image_note(request, handled, slot, &software),
+        }
     }
 
-    /// The row of that number of the alarms that were put by, or zeros.
-    fn next_row(&mut self, number: u16) -> [u8; ROW_BYTES]
-        ensures value { result ≡ next_row number self.old.alarm_snapshot }
-        ensures after { self.new ≡ record self.old { alarm_snapshot = alarms_fresh_again self.old.alarm_snapshot } }
+    /// The unit restarts after its reply.
+    fn reboot(&mut self, frame: &Frame) -> Deed
+        ensures reply { (u : Onu) → result.reply ≡ (reboot frame.now u).reply }
+        ensures note { (u : Onu) → result.note ≡ (reboot frame.now u).note }
+        ensures leaving { (u : Onu) → self.old.leaving ≡ u.leaving
+            → self.new.leaving ≡ (reboot frame.now u).unit.leaving }
+        ensures same { self.new ≡ record self.old { leaving = self.new.leaving } }
     {
-        match &mut self.audit {
-            Some(audit) => audit.row(number),
-            None => [0; ROW_BYTES],
+        let code = reboot_code(frame.entity);
+        let reply = response_to(frame, Response::Reboot { code });
+        if code != Code::SUCCESS {
+            return plain_deed(reply);
+        }
+        self.leaving = Some(Boot::PowerUp);
+        Deed {
+            reply,
+            note: Some(Note::Leaving {
+                boot: Boot::PowerUp,
+            }),
         }
     }
 
     /// The unit measured a value. `out` is the notice of it, and empty where there is none.
-    #[tactic(auto, unfolding(unit_spec::specs::Noticing::onu_sensed))]
     pub fn sense(&mut self, entity: EntityId, number: u8, value: &[u8], out: &mut Packet) -> Noticed
-        ensures sensed { noticing self.new result out.new ≡ onu_sensed entity number value.now self.old }
+        ensures sensed { (u : Onu) → UnitStands D.seen D.may_leave self.old u
+            → Tells D.seen D.may_leave self.new result out.new
+            (onu_sensed entity number value.now u) }
         ensures whole { result ≡ noticed.Sent → length out.new ≡ 48 }
+        ensures images { self.new.images ≡ self.old.images }
     {
-        out.clear();
-        match self.store.sense(entity, number, value) {
-            Sensed::NotAllowed => Noticed::NotAllowed,
-            Sensed::Same => Noticed::Same,
-            Sensed::Changed => {
-                give_notice(entity, value_notice(number, value), out);
-                Noticed::Sent
-            }
+        if self.leaves() {
+            out.clear();
+            return Noticed::NotAllowed;
         }
+        self.desk.sense(entity, number, value, out)
     }
 
-    /// The entity's alarms are these from now on. `out` is the notice of it, and empty where there is none.
-    #[tactic(auto, unfolding(unit_spec::specs::Noticing::onu_alarmed))]
+    /// The entity's alarms are these from now on. `out` is the notice of it, and empty where there
+    /// is none.
     pub fn alarm(
         &mut self,
         entity: EntityId,
         bitmap: [u8; BITMAP_BYTES],
         out: &mut Packet,
     ) -> Result<Noticed, NoMemory>
-        ensures alarmed { IfOk result (λ n. noticing self.new n out.new ≡ onu_alarmed entity bitmap self.old) }
+        ensures alarmed { (u : Onu) → UnitStands D.seen D.may_leave self.old u → IfOk result (λ n.
+            Tells D.seen D.may_leave self.new n out.new (onu_alarmed entity bitmap u)) }
         ensures whole { IfOk result (λ n. n ≡ noticed.Sent → length out.new ≡ 48) }
-        ensures memory { OnErr result (alarm_takes entity bitmap self.old ≡ true) }
+        ensures memory { (u : Onu) → UnitStands D.seen D.may_leave self.old u
+            → OnErr result (alarm_takes entity bitmap u ≡ true) }
+        ensures images { self.new.images ≡ self.old.images }
     {
-        out.clear();
-        if !self.store.may_alarm(entity) {
+        if self.leaves() {
+            out.clear();
             return Ok(Noticed::NotAllowed);
         }
-        match self.alarms.change(entity, bitmap)? {
-            None => Ok(Noticed::Same),
-            Some(notice) => {
-                give_notice(entity, notice, out);
-                Ok(Noticed::Sent)
-            }
-        }
+        self.desk.alarm(entity, bitmap, out)
     }
 
     /// How many entities have an alarm.
     pub fn alarms(&self) -> usize
-        ensures count { result ≡ length self.now.log.alarms }
+        ensures count { result ≡ length self.now.desk.log.alarms }
         ensures most { result ≤ 7 }
     {
-        self.alarms.len()
+        self.desk.alarms()
     }
 
     /// A second passes: what was put by is a second older, or is dropped.
-    #[tactic(auto, unfolding(unit_spec::specs::Onu::onu_ticked))]
     pub fn tick(&mut self)
-        ensures ticked { self.new ≡ onu_ticked self.old }
+        ensures ticked { (u : Onu) → UnitStands D.seen D.may_leave self.old u
+            → UnitStands D.seen D.may_leave self.new (onu_ticked u) }
+        ensures images { self.new.images ≡ self.old.images }
+        ensures leaving { self.new.leaving ≡ self.old.leaving }
     {
-        self.tick_upload();
-        self.tick_audit();
+        self.desk.tick();
     }
 
-    /// What was put by for an upload is a second older, or is dropped.
-    fn tick_upload(&mut self)
-        ensures ticked { self.new ≡ record self.old { snapshot = second_older self.old.snapshot } }
+    /// How the unit starts again, where it leaves.
+    pub fn leaving(&self) -> Option<Boot>
+        ensures value { result ≡ self.now.leaving }
     {
-        let Some(upload) = &mut self.upload else {
-            return;
-        };
-        if upload.is_over() {
-            self.upload = None;
-        } else {
-            upload.grow_older();
-        }
+        self.leaving
     }
 
-    /// What was put by for an audit is a second older, or is dropped.
-    fn tick_audit(&mut self)
-        ensures ticked { self.new ≡ record self.old { alarm_snapshot = alarms_second_older self.old.alarm_snapshot } }
+    /// Whether it leaves.
+    fn leaves(&self) -> bool
+        ensures value { result ≡ is_some self.now.leaving }
     {
-        let Some(audit) = &mut self.audit else {
-            return;
-        };
-        if audit.is_over() {
-            self.audit = None;
-        } else {
-            audit.grow_older();
-        }
+        self.leaving.is_some()
+    }
+
+    /// The software images.
+    pub fn software(&self) -> Software
+        ensures shows { (u : Onu) → UnitStands D.seen D.may_leave self.now u
+            → result ≡ software_of u.store }
+    {
+        self.images.software()
+    }
+
+    /// Gives the disk back.
+    pub fn stop(self) -> D
+        ensures disk { (state : Form D) → self.images.state ≡ Some state
+            → result ≡ state_disk state }
+    {
+        self.images.unmount()
     }
 }
 
-/// A deed of which nothing else is told.
-fn plain_deed(reply: Frame) -> Deed
-    ensures value { result ≡ record { reply = reply; note = None } }
-{
-    Deed { reply, note: None }
+impl<D: Rig> Unit<D> {
+    /// Passes a trap to the disk, and changes nothing else.
+    pub fn rig(&mut self, trap: Trap)
+        requires trap { IsTrap trap }
+        ensures stands { (u : Onu) → UnitStands D.seen D.may_leave self.old u
+            → UnitStands D.seen D.may_leave self.new u }
+        ensures trap { (old new : Form D) (r : Rigged) → self.old.images.state ≡ Some old
+            → self.new.images.state ≡ Some new → D.rig (state_disk old) ≡ Some r
+            → D.rig (state_disk new) ≡ Some (record r { trap = trap }) }
+        ensures same { self.new ≡ record self.old {
+          images = record self.old.images { state = self.new.images.state };
+        } }
+    {
+        self.images.rig(trap);
+    }
 }
 
 /// A packet that asks nothing has no reply.

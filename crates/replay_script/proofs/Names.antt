@@ -6,7 +6,7 @@ use Rattle.script_spec.specs.declared.Line.{Line}
 use Rattle.script_spec.specs.declared.TheConstants.{WORD_FAULT}
 use Rattle.script_spec.specs.Script.{row, has}
 use Rattle.script_spec.specs.Reading.{word_at, or_reason, line_named, known_in}
-use Rattle.script_laws.proofs.Forms.{or_reason_ok}
+use Rattle.script_laws.proofs.Steps.{or_reason_ok}
 use Rattle.script_laws.proofs.Table.{named_again}
 use Rattle.replay_script.specs.Answers.{Fails}
 use Rattle.replay_script.specs.declared.refusal.LineRefusal.{LineRefusal}

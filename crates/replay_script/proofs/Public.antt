@@ -2,7 +2,7 @@
 use Rattle.std.proofs.Common.{◌≡◌, ℕ, List, inl, inr, Option, Some, Result, Ok, Err, sym, ap, ◌∙◌}
 use Rattle.std.proofs.Common.{refl}
 use Rattle.std.specs.Prelude.{IfOk, IfErr}
-use Rattle.script_laws.proofs.Forms.{ok_same}
+use Rattle.script_laws.proofs.Steps.{ok_same}
 use Rattle.replay_script.specs.declared.refusal.ScriptRefusal.{ScriptRefusal}
 use Rattle.replay_script.specs.declared.refusal.ScriptRefusal.TheVariants.{Fault, NoMemory}
 use Rattle.replay_script.specs.Answers.{GivesScript, ReadsOnly, IsFaultOf, RefusesOnly}

@@ -6,6 +6,8 @@ use Rattle.replay_script.specs.declared.script.Event.TheVariants.{Delete, Resync
 use Rattle.replay_script.specs.declared.script.Event.TheVariants.{Deliver, Flow, NoiseUnit, NoiseOlt}
 use Rattle.replay_script.specs.declared.script.Event.TheVariants.{Tick, Sense, Alarm, CutUnit}
 use Rattle.replay_script.specs.declared.script.Event.TheVariants.{CutOlt, StartUnit, StartOlt}
+use Rattle.replay_script.specs.declared.script.Event.TheVariants.{Activate, Commit, Reboot, Image}
+use Rattle.replay_script.specs.declared.script.Event.TheVariants.{CutIn}
 use Rattle.replay_script.specs.declared.script.Header.{Header}
 use Rattle.replay_script.specs.declared.orders.FirstNumbers.{FirstNumbers}
 
@@ -16,11 +18,16 @@ action_of (Get lane entity mask) = spec.Get lane entity mask
 action_of (Create lane entity values) = spec.Create lane entity values
 action_of (Set lane entity mask values) = spec.Set lane entity mask values
 action_of (Delete lane entity) = spec.Delete lane entity
+action_of (Activate lane slot) = spec.Activate lane slot
+action_of (Commit lane slot) = spec.Commit lane slot
+action_of (Reboot lane) = spec.Reboot lane
 action_of Resync = spec.Resync
 action_of Audit = spec.Audit
 action_of Check = spec.Check
+action_of (Image slot window crc image) = spec.Image slot window crc image
 action_of (Deliver packet) = spec.Deliver packet
 action_of (Flow times) = spec.Flow times
+action_of (CutIn packet call pick) = spec.CutIn packet call pick
 action_of (NoiseUnit bytes) = spec.NoiseUnit bytes
 action_of (NoiseOlt bytes) = spec.NoiseOlt bytes
 action_of Tick = spec.Tick

@@ -10,8 +10,8 @@ use crate::script::Event;
 use crate::words::LineWords;
 use omci_core::EntityId;
 use script_spec::{
-    Document, LAST_PACKET, Line, MAX_ATTRIBUTE, MAX_BITMAP, MAX_CREATE, MAX_FLOW, MAX_SENSED,
-    MAX_SET,
+    Document, LAST_PACKET, Line, MAX_ASKED, MAX_ATTRIBUTE, MAX_BITMAP, MAX_CALL, MAX_CREATE,
+    MAX_FLOW, MAX_IMAGE, MAX_SENSED, MAX_SET,
 };
 use std::alloc::Global;
 
@@ -32,11 +32,16 @@ pub(crate) fn event_of(
         Line::Create => create_event(alloc, words),
         Line::Set => set_event(alloc, words),
         Line::Delete => delete_event(words),
+        Line::Activate => activate_event(words),
+        Line::Commit => commit_event(words),
+        Line::Reboot => reboot_event(words),
         Line::Resync => resync_event(words),
         Line::Audit => audit_event(words),
         Line::Check => check_event(words),
+        Line::Image => image_event(alloc, words),
         Line::Deliver => deliver_event(words),
         Line::Flow => flow_event(words),
+        Line::CutIn => cut_in_event(words),
         Line::NoiseUnit => noise_unit_event(alloc, words),
         Line::NoiseOlt => noise_olt_event(alloc, words),
         Line::Tick => tick_event(words),
@@ -132,6 +137,68 @@ fn delete_event(mut words: LineWords<'_>) -> Result<Event, LineRefusal>
             class: words.id()?,
             instance: words.id()?,
         },
+    })
+}
+
+/// The words after `activate`: LANE SLOT.
+#[tactic(auto, unfolding(script_spec::specs::Reading::action_at))]
+fn activate_event(mut words: LineWords<'_>) -> Result<Event, LineRefusal>
+    ensures value { Gives action_of result (action_at Line.Activate words.entry) }
+{
+    words.expect(2)?;
+    Ok(Event::Activate {
+        lane: words.lane()?,
+        slot: words.slot()?,
+    })
+}
+
+/// The words after `commit`: LANE SLOT.
+#[tactic(auto, unfolding(script_spec::specs::Reading::action_at))]
+fn commit_event(mut words: LineWords<'_>) -> Result<Event, LineRefusal>
+    ensures value { Gives action_of result (action_at Line.Commit words.entry) }
+{
+    words.expect(2)?;
+    Ok(Event::Commit {
+        lane: words.lane()?,
+        slot: words.slot()?,
+    })
+}
+
+/// The word after `reboot`: LANE.
+#[tactic(auto, unfolding(script_spec::specs::Reading::action_at))]
+fn reboot_event(mut words: LineWords<'_>) -> Result<Event, LineRefusal>
+    ensures value { Gives action_of result (action_at Line.Reboot words.entry) }
+{
+    words.expect(1)?;
+    Ok(Event::Reboot {
+        lane: words.lane()?,
+    })
+}
+
+/// The words after `image`: SLOT WINDOW CHECK HEX.
+#[tactic(auto, unfolding(script_spec::specs::Reading::action_at))]
+fn image_event(alloc: Global, mut words: LineWords<'_>) -> Result<Event, LineRefusal>
+    ensures value { Gives action_of result (action_at Line.Image words.entry) }
+{
+    words.expect(4)?;
+    Ok(Event::Image {
+        slot: words.slot()?,
+        window: words.number(1, MAX_ASKED)? as u16,
+        crc: words.check()?,
+        image: words.bytes(alloc, 1, MAX_IMAGE)?,
+    })
+}
+
+/// The words after `cutin`: the packet's number, the device call's, and the pick.
+#[tactic(auto, unfolding(script_spec::specs::Reading::action_at))]
+fn cut_in_event(mut words: LineWords<'_>) -> Result<Event, LineRefusal>
+    ensures value { Gives action_of result (action_at Line.CutIn words.entry) }
+{
+    words.expect(3)?;
+    Ok(Event::CutIn {
+        packet: words.number(0, LAST_PACKET)?,
+        call: words.number(1, MAX_CALL)?,
+        pick: words.pick()?,
     })
 }
 

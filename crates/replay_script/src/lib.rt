@@ -16,3 +16,4 @@ pub use printing::print;
 pub use reading::{read, read_orders};
 pub use refusal::ScriptRefusal;
 pub use script::{Event, Header, Script};
+pub use slot_spec::Pick as CutPick;

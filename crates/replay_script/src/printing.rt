@@ -6,12 +6,14 @@ ghost use Rattle.hex.specs.Hex.{encode_lower};
 ghost use Rattle.script_spec.specs.Script as spec;
 ghost use Rattle.script_spec.specs.Text.{lane_text};
 ghost use Rattle.script_spec.specs.Canonical.{hex_text, action_text, header_text, canonical};
+ghost use Rattle.script_spec.specs.Canonical.{check_text, pick_text};
 ghost use Rattle.script_spec.specs.Reading.{reading};
 ghost use Rattle.replay_script.specs.Events.{action_of, header_of};
 
 use crate::script::{Event, Header, Script};
 use itoa::Buffer;
 use omci_core::{EntityId, NoMemory, Priority};
+use slot_spec::Pick;
 use std::alloc::Global;
 
 /// The script's canonical text: no line that is passed over, numbers without zeros in front, hex in
@@ -66,11 +68,21 @@ fn put_event(alloc: Global, out: &mut Vec<u8>, event: &Event) -> Result<(), NoMe
             values,
         } => put_set(alloc, out, *lane, *entity, *mask, values.bytes()),
         Event::Delete { lane, entity } => put_delete(out, *lane, *entity),
+        Event::Activate { lane, slot } => put_activate(out, *lane, *slot),
+        Event::Commit { lane, slot } => put_commit(out, *lane, *slot),
+        Event::Reboot { lane } => put_on_lane(out, b"reboot", *lane),
         Event::Resync => put(out, b"resync\n"),
         Event::Audit => put(out, b"audit\n"),
         Event::Check => put(out, b"check\n"),
+        Event::Image {
+            slot,
+            window,
+            crc,
+            image,
+        } => put_image(alloc, out, *slot, *window, *crc, image.bytes()),
         Event::Deliver { packet } => put_deliver(out, *packet),
         Event::Flow { times } => put_flow(out, u64::from(*times)),
+        Event::CutIn { packet, call, pick } => put_cut_in(out, *packet, *call, *pick),
         Event::NoiseUnit { bytes } => put_noise_unit(alloc, out, bytes.bytes()),
         Event::NoiseOlt { bytes } => put_noise_olt(alloc, out, bytes.bytes()),
         Event::Tick => put(out, b"tick\n"),
@@ -96,6 +108,94 @@ fn put_on_lane(out: &mut Vec<u8>, name: &[u8], lane: Priority) -> Result<(), NoM
     put_lane(out, lane)?;
     put(out, b"\n")?;
     Ok(())
+}
+
+/// Appends the line of an activate.
+#[tactic(auto, unfolding(script_spec::specs::Canonical::line_text))]
+fn put_activate(out: &mut Vec<u8>, lane: Priority, slot: u8) -> Result<(), NoMemory>
+    ensures appended { OnOk result
+        (out.new.items ≡ out.old.items ++ action_text (spec.Activate lane slot)) }
+{
+    put(out, b"activate")?;
+    put_lane(out, lane)?;
+    put_number(out, u64::from(slot))?;
+    put(out, b"\n")?;
+    Ok(())
+}
+
+/// Appends the line of a commit.
+#[tactic(auto, unfolding(script_spec::specs::Canonical::line_text))]
+fn put_commit(out: &mut Vec<u8>, lane: Priority, slot: u8) -> Result<(), NoMemory>
+    ensures appended { OnOk result
+        (out.new.items ≡ out.old.items ++ action_text (spec.Commit lane slot)) }
+{
+    put(out, b"commit")?;
+    put_lane(out, lane)?;
+    put_number(out, u64::from(slot))?;
+    put(out, b"\n")?;
+    Ok(())
+}
+
+/// Appends the line of a download.
+#[tactic(auto, unfolding(script_spec::specs::Canonical::line_text))]
+fn put_image(
+    alloc: Global,
+    out: &mut Vec<u8>,
+    slot: u8,
+    window: u16,
+    check: Option<u32>,
+    image: &[u8],
+) -> Result<(), NoMemory>
+    ensures appended { OnOk result (out.new.items
+        ≡ out.old.items ++ action_text (spec.Image slot window check image.now)) }
+{
+    put(out, b"image")?;
+    put_number(out, u64::from(slot))?;
+    put_number(out, u64::from(window))?;
+    put_check(alloc, out, check)?;
+    put_bytes(alloc, out, image)?;
+    put(out, b"\n")?;
+    Ok(())
+}
+
+/// Appends a space and a check value, or `-` for none.
+fn put_check(alloc: Global, out: &mut Vec<u8>, check: Option<u32>) -> Result<(), NoMemory>
+    ensures appended { OnOk result (out.new.items ≡ out.old.items ++ 32 ∷ check_text check) }
+{
+    match check {
+        None => put(out, b" -"),
+        Some(check) => put_bytes(alloc, out, check.to_be_bytes().as_slice()),
+    }
+}
+
+/// Appends the line of a cut amid a delivery.
+#[tactic(auto, unfolding(script_spec::specs::Canonical::line_text))]
+fn put_cut_in(out: &mut Vec<u8>, packet: u64, call: u64, pick: Pick) -> Result<(), NoMemory>
+    ensures appended { OnOk result
+        (out.new.items ≡ out.old.items ++ action_text (spec.CutIn packet call pick)) }
+{
+    put(out, b"cutin")?;
+    put_number(out, packet)?;
+    put_number(out, call)?;
+    put_pick(out, pick)?;
+    put(out, b"\n")?;
+    Ok(())
+}
+
+/// Appends a space and what a cut gives to each byte.
+fn put_pick(out: &mut Vec<u8>, pick: Pick) -> Result<(), NoMemory>
+    ensures appended { OnOk result (out.new.items ≡ out.old.items ++ 32 ∷ pick_text pick) }
+{
+    match pick {
+        Pick::Old => put(out, b" old"),
+        Pick::New => put(out, b" new"),
+        Pick::Byte(byte) => {
+            let mut digits = [0; 2];
+            let _fits = hex::encode_to_slice([byte].as_slice(), &mut digits);
+            put(out, b" ")?;
+            put(out, &digits)
+        }
+    }
 }
 
 /// Appends the line of a get.

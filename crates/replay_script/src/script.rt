@@ -6,6 +6,7 @@ ghost use Rattle.script_spec.specs.Script.{IsHeader, IsAction, IsScript};
 ghost use Rattle.replay_script.specs.Events.{action_of, header_of};
 
 use omci_core::{Bytes, EntityId, Priority};
+use slot_spec::Pick;
 use std::marker::Model;
 
 /// What a script begins with.
@@ -21,8 +22,8 @@ pub struct Header {
     pub factory: Bytes,
 }
 
-/// What a line of a script, or of orders, asks for. Bytes are kept as they were written; they are filled when the
-/// event is run.
+/// What a line of a script, or of orders, asks for. Bytes are kept as they were written; they are
+/// filled when the event is run.
 #[derive(Debug, PartialEq, Eq, Drop)]
 pub enum Event {
     /// The manager asks for the unit's MIB data sync, to see that the lane is alive.
@@ -57,12 +58,34 @@ pub enum Event {
         lane: Priority,
         entity: EntityId,
     },
+    /// The manager activates the image of a slot, 0 or 1: the unit starts again with it.
+    Activate {
+        lane: Priority,
+        slot: u8,
+    },
+    /// The manager commits a slot, 0 or 1: the unit starts with its image from then on.
+    Commit {
+        lane: Priority,
+        slot: u8,
+    },
+    /// The manager lets the unit restart.
+    Reboot {
+        lane: Priority,
+    },
     /// The manager takes the unit's database over by an upload.
     Resync,
     /// The manager audits its table of alarms: it is read anew from the unit.
     Audit,
     /// The manager asks for the unit's MIB data sync, to compare it with its copy's.
     Check,
+    /// The manager downloads an image of 1 to 16,777,216 bytes into a slot, 0 or 1, and asks for
+    /// windows of 1 to 256 sections. It gives this check value in the place of the image's own.
+    Image {
+        slot: u8,
+        window: u16,
+        crc: Option<u32>,
+        image: Bytes,
+    },
     /// The link delivers the packet of this number, counted from 0.
     Deliver {
         packet: u64,
@@ -70,6 +93,14 @@ pub enum Event {
     /// The link delivers the oldest fresh packet, at most so many times, 1 to 65,536.
     Flow {
         times: u32,
+    },
+    /// The link delivers a packet to the unit, whose power goes at a device call of this delivery,
+    /// the 1st to the 1,000th, or after it where it makes fewer. The pick is what becomes of bytes
+    /// that were written and not synced.
+    CutIn {
+        packet: u64,
+        call: u64,
+        pick: Pick,
     },
     /// Noise comes to the unit: at most 4,096 bytes that don't decode as a frame of either message
     /// set.

@@ -8,9 +8,10 @@ ghost use Rattle.extended_spec.specs.Frames.{any_fault_of};
 ghost use Rattle.script_spec.specs.Script.{row, has};
 ghost use Rattle.script_spec.specs.Fields.{Lane as LaneSaid, Number as NumberSaid};
 ghost use Rattle.script_spec.specs.Fields.{Bytes as BytesSaid, LaneName, Decimal, MaskDigits};
-ghost use Rattle.script_spec.specs.Fields.{HexBytes, NoiseBytes};
+ghost use Rattle.script_spec.specs.Fields.{HexBytes, NoiseBytes, CheckDigits, PickName};
+ghost use Rattle.script_spec.specs.Fields.{Check as CheckSaid, PickOf as PickSaid};
 ghost use Rattle.script_spec.specs.Text.{words_of, after_name, decimal_value, is_numeral};
-ghost use Rattle.script_spec.specs.Text.{hex_bytes, mask_of};
+ghost use Rattle.script_spec.specs.Text.{hex_bytes, mask_of, check_of, byte_of};
 ghost use Rattle.script_spec.specs.Reading.{word_at, counted, field_at, line_named, line_at};
 ghost use Rattle.script_spec.specs.Reading.{or_among, lane_of, bytes_of, noise_of, or_reason};
 ghost use Rattle.script_spec.specs.declared.TheConstants.{WORD_FAULT, HEX_FAULT};
@@ -22,7 +23,8 @@ use crate::refusal::LineRefusal;
 use extended_frames::{Shown, front_shown};
 use frame_spec::LAST_NUMBER;
 use omci_core::{Bytes, Priority};
-use script_spec::{Document, Line, MAX_DIGITS, MAX_ID, MAX_NOISE};
+use script_spec::{Document, Line, MAX_DIGITS, MAX_ID, MAX_NOISE, MAX_SLOT};
+use slot_spec::Pick;
 use std::alloc::Global;
 use std::marker::Model;
 
@@ -124,11 +126,16 @@ impl<'a> LineWords<'a> {
             b"create" => Ok(Line::Create),
             b"set" => Ok(Line::Set),
             b"delete" => Ok(Line::Delete),
+            b"activate" => Ok(Line::Activate),
+            b"commit" => Ok(Line::Commit),
+            b"reboot" => Ok(Line::Reboot),
             b"resync" => Ok(Line::Resync),
             b"audit" => Ok(Line::Audit),
             b"check" => Ok(Line::Check),
+            b"image" => Ok(Line::Image),
             b"deliver" => Ok(Line::Deliver),
             b"flow" => Ok(Line::Flow),
+            b"cutin" => Ok(Line::CutIn),
             b"noise" => self.end(Line::NoiseUnit, Line::NoiseOlt),
             b"tick" => Ok(Line::Tick),
             b"sense" => Ok(Line::Sense),
@@ -207,6 +214,47 @@ impl<'a> LineWords<'a> {
         mask_of(word).ok_or(LineRefusal::HEX)
     }
 
+    /// The number of an image slot.
+    pub(crate) fn slot(&mut self) -> Result<u8, LineRefusal>
+        ensures value { Gives (λ number. (NumberSaid number, self.new)) result
+            (field_at (Decimal 0 MAX_SLOT) self.old) }
+    {
+        Ok(self.number(0, MAX_SLOT)? as u8)
+    }
+
+    /// A check value of exactly eight hex digits, or `-` for none.
+    #[tactic(auto, unfolding(script_spec::specs::Reading::field_at))]
+    pub(crate) fn check(&mut self) -> Result<Option<u32>, LineRefusal>
+        ensures value { Gives (λ check. (CheckSaid check, self.new)) result
+            (field_at CheckDigits self.old) }
+    {
+        let word = self.word()?;
+        if word == b"-".as_slice() {
+            return Ok(None);
+        }
+        match check_of(word) {
+            Some(check) => Ok(Some(check)),
+            None => Err(LineRefusal::HEX),
+        }
+    }
+
+    /// What a cut gives to each byte: `old`, `new`, or two hex digits.
+    #[tactic(auto, unfolding(script_spec::specs::Reading::field_at))]
+    pub(crate) fn pick(&mut self) -> Result<Pick, LineRefusal>
+        ensures value { Gives (λ pick. (PickSaid pick, self.new)) result
+            (field_at PickName self.old) }
+    {
+        let word = self.word()?;
+        match word {
+            b"old" => Ok(Pick::Old),
+            b"new" => Ok(Pick::New),
+            _ => match byte_of(word) {
+                Some(byte) => Ok(Pick::Byte(byte)),
+                None => Err(LineRefusal::HEX),
+            },
+        }
+    }
+
     /// Bytes in hex, of a number within its bounds.
     #[tactic(auto, unfolding(script_spec::specs::Reading::field_at))]
     pub(crate) fn bytes(
@@ -254,11 +302,16 @@ fn is_order(line: Line) -> bool
         | Line::Create
         | Line::Set
         | Line::Delete
+        | Line::Activate
+        | Line::Commit
+        | Line::Reboot
         | Line::Resync
         | Line::Audit
-        | Line::Check => true,
+        | Line::Check
+        | Line::Image => true,
         Line::Deliver
         | Line::Flow
+        | Line::CutIn
         | Line::NoiseUnit
         | Line::NoiseOlt
         | Line::Tick
@@ -326,6 +379,30 @@ fn mask_of(word: &[u8]) -> Option<u16>
     let mut mask = [0; 2];
     match hex::decode_to_slice(word, &mut mask) {
         Ok(()) => Some(u16::from_be_bytes(mask)),
+        Err(_) => None,
+    }
+}
+
+/// The check value that exactly eight hex digits stand for.
+#[tactic(auto, unfolding(script_spec::specs::Text::check_of))]
+fn check_of(word: &[u8]) -> Option<u32>
+    ensures value { result ≡ check_of word.now }
+{
+    let mut check = [0; 4];
+    match hex::decode_to_slice(word, &mut check) {
+        Ok(()) => Some(u32::from_be_bytes(check)),
+        Err(_) => None,
+    }
+}
+
+/// The byte that exactly two hex digits stand for.
+#[tactic(auto, unfolding(script_spec::specs::Text::byte_of))]
+fn byte_of(word: &[u8]) -> Option<u8>
+    ensures value { result ≡ byte_of word.now }
+{
+    let mut byte = [0; 1];
+    match hex::decode_to_slice(word, &mut byte) {
+        Ok(()) => Some(byte[0]),
         Err(_) => None,
     }
 }

@@ -1,5 +1,5 @@
 -- The unit's database stays whole.
-use Rattle.std.proofs.Common.{◌≡◌, ℕ, ◌+◌, ◌<◌, ◌≤◌, ◌^◌, Bool, true, false, cond, not, ◌&&◌, List, [], ◌∷◌, length, take, drop, replicate, map, Option, Some, None, option_map, is_some, Ordering, Less, Equal, Greater, is_lt, refl, sym, ap, subst, ◌∙◌, arith, nat_le, nat_lt, ◌==◌, length-drop}
+use Rattle.std.proofs.Common.{◌≡◌, ℕ, ◌+◌, ◌<◌, ◌≤◌, ◌^◌, Bool, true, false, cond, not, ◌&&◌, List, [], ◌∷◌, ◌++◌, length, take, drop, replicate, map, Option, Some, None, option_map, is_some, Ordering, Less, Equal, Greater, is_lt, refl, sym, ap, subst, ◌∙◌, arith, nat_le, nat_lt, ◌==◌, length-drop, length-append}
 use Rattle.std.proofs.lemmas.Option.{same_Some}
 use Rattle.std.proofs.lemmas.Bool.{eqb-true, and_parts, false≢true}
 use Rattle.std.proofs.lemmas.Bool.Decides.{nat_tests}
@@ -10,12 +10,16 @@ use Rattle.std.specs.BTreeMap.{insert_entry, is_at}
 use Rattle.omci_types.specs.declared.EntityId.{EntityId}
 use Rattle.omci_types.specs.declared.SlotView.{SlotView}
 use Rattle.omci_types.specs.declared.Software.{Software}
+use Rattle.slot_spec.specs.Layout.{version}
+use Rattle.slot_spec.specs.Header.{view_of}
+use Rattle.slot_spec.specs.Slots.{SlotPair}
+use Rattle.store_spec.specs.State.{software_in}
 use Rattle.class_spec.specs.declared.Maker.TheVariants.{Unit as by_unit, Manager as by_manager}
 use Rattle.class_spec.specs.declared.TheConstants.{ONU_DATA}
 use Rattle.class_spec.specs.Classes.{Attribute, Row, class_row, class_table, attribute_in}
 use Rattle.class_spec.specs.Masks.{has, width_where, width_of}
 use Rattle.mib_spec.specs.declared.TheConstants.{MOST_ENTITIES}
-use Rattle.mib_spec.specs.Database.{Database, Managed, Values, entity_cmp, entity, managed_of, is_held, with_entity, without_entity, zeros, zeros_of, values_of, with_values, with_value, counter, with_counter, bump, with_counter_grown, image_entity, image_values, first_with, first, ethernet, onu_g, onu2_g, t_cont, slot}
+use Rattle.mib_spec.specs.Database.{Database, Managed, Values, entity_cmp, entity, managed_of, is_held, with_entity, without_entity, zeros, zeros_of, values_of, with_values, with_value, counter, with_counter, bump, with_counter_grown, image_entity, image_values, first_with, first, with_software, ethernet, onu_g, onu2_g, t_cont, slot}
 use Rattle.mib_spec.specs.declared.Sensed.{Sensed}
 use Rattle.mib_spec.specs.declared.Sensed.TheVariants.{NotAllowed, Same, Changed}
 use Rattle.mib_spec.specs.Requests.{may_sense, is_sensed, sense_outcome, first_code, unless_refused, is_class, is_unit_made, create_values, new_entity, create_code, create_outcome, delete_code, delete_outcome, of_class, set_values, set_code, is_counter_set, set_effect, set_outcome, reset}
@@ -401,10 +405,10 @@ abbrev row_at : ℕ → Row
 row_at class = option_map_or (λ row. row) (class_row class) (record { number = class; maker = by_unit; attributes = [] })
 
 -- the class of the software images
-pub image_row : Row
+unfoldable pub image_row : Row
 image_row = row_at 7
 
-image_row_is : class_row 7 ≡ Some image_row
+pub image_row_is : class_row 7 ≡ Some image_row
 unfolding image_row class_row class_table
 image_row_is = refl
 
@@ -458,20 +462,54 @@ reset_whole database h =
     (values_shaped (image_entity 0) image_row database h image_row_is)
     (values_shaped (image_entity 1) image_row database h image_row_is)
 
-version_wide : (o : Option SlotView) → ((view : SlotView) → o ≡ Some view → length view.version ≡ 14)
+pub version_wide : (o : Option SlotView) → ((view : SlotView) → o ≡ Some view → length view.version ≡ 14)
     → length (option_map_or (λ (view : SlotView). view.version) o (replicate 14 0)) ≡ 14
 version_wide None h = refl
 version_wide (Some view) h = h view refl
 
-image_shaped : (number : ℕ) (software : Software)
+pub image_wide : (number : ℕ) (software : Software)
     → length (option_map_or (λ (view : SlotView). view.version) (slot number software) (replicate 14 0)) ≡ 14
     → IsShaped image_row.attributes (image_values number software)
 unfolding image_row class_row class_table image_values
-image_shaped number software wide = (refl, wide, (refl, refl, (refl, refl, (refl, refl, tt))))
+image_wide number software wide = (refl, wide, (refl, refl, (refl, refl, (refl, refl, tt))))
 
 pub first_whole : (software : Software) → HasVersions software → IsWholeDatabase (first software)
 unfolding first
 first_whole software h =
     first_with_whole (image_values 0 software) (image_values 1 software)
-    (image_shaped 0 software (version_wide software.first h.first))
-    (image_shaped 1 software (version_wide software.second h.second))
+    (image_wide 0 software (version_wide software.first h.first))
+    (image_wide 1 software (version_wide software.second h.second))
+
+-- ---- the software images
+
+-- a database stays whole where the software images are shown
+pub with_software_whole : (software : Software) (database : Database) → HasVersions software
+    → IsWholeDatabase database → IsWholeDatabase (with_software software database)
+unfolding with_software
+with_software_whole software database v h =
+    with_values_whole (image_entity 1) image_row (image_values 1 software)
+    (with_values (image_entity 0) (image_values 0 software) database)
+    (with_values_whole (image_entity 0) image_row (image_values 0 software) database h image_row_is
+    (image_wide 0 software (version_wide software.first v.first)))
+    image_row_is (image_wide 1 software (version_wide software.second v.second))
+
+image_version_wide : (image : List ℕ) → length (version image) ≡ 14
+unfolding version
+image_version_wide image =
+    let a = length-append image (replicate 14 0) in
+    let b = length-replicate {A = ℕ} 14 0 in
+    length-take-le 14 (image ++ replicate 14 0) (omega (arith, a, b))
+
+view_wide : (o : Option (List ℕ)) (view : SlotView) → option_map view_of o ≡ Some view
+    → length view.version ≡ 14
+view_wide None view e = absurd (cc)
+view_wide (Some image) view e =
+    ap (λ (v : SlotView). length v.version) (sym (same_Some (view_of image) view e))
+    ∙ image_version_wide image
+
+-- the images of a store are shown with versions of that width
+pub slots_versions : (active : ℕ) (slots : SlotPair) → HasVersions (software_in active slots)
+slots_versions active slots = record {
+  first = λ view e. view_wide slots.first view e;
+  second = λ view e. view_wide slots.second view e;
+}

@@ -5,10 +5,11 @@ use Rattle.std.proofs.lemmas.Bool.{and_parts, false≢true}
 use Rattle.std.specs.List.{flat_map}
 use Rattle.message_spec.specs.declared.Request.TheVariants as request
 use Rattle.link_spec.specs.Link.{Link}
-use Rattle.lane_spec.specs.Command.{sync_entity, job_command}
+use Rattle.lane_spec.specs.Command.{Command, sync_entity, job_command}
 use Rattle.lane_spec.specs.Lane.{Lane, Waiting, with_command}
-use Rattle.manager_spec.specs.Manager.{Stage, Probing, Asking, Gathering, AskingAlarms, GatheringRows, Manager, Outcome, Sending, and_then}
+use Rattle.manager_spec.specs.Manager.{Stage, Probing, Asking, Gathering, AskingAlarms, GatheringRows, StartingImage, SendingImage, EndingImage, DelayingEnd, Order, Manager, Outcome, Sending, and_then}
 use Rattle.manager_spec.specs.Resync.{with_job}
+use Rattle.manager_spec.specs.Upgrade.{image_window, end_image_command}
 use Rattle.manager_spec.specs.Jobs.{is_free, wish_in, wish_of, send_wish, job_goes_on, Wish}
 use Rattle.upload_spec.specs.Pieces.{Copy}
 use Rattle.unit_spec.specs.Onu.{Onu}
@@ -32,6 +33,10 @@ Ready lives unit low tlow asking history (Gathering expected next copy) =
     ⊎ (IsFree low × Gathers unit asking history expected next copy)
 Ready lives unit low tlow asking history AskingAlarms = Unit {0}
 Ready lives unit low tlow asking history (GatheringRows expected next) = Unit {0}
+Ready lives unit low tlow asking history (StartingImage order asked image) = Unit {0}
+Ready lives unit low tlow asking history (SendingImage order outgoing resent) = Unit {0}
+Ready lives unit low tlow asking history (EndingImage order image busy) = Unit {0}
+Ready lives unit low tlow asking history (DelayingEnd order image busy) = Unit {0}
 
 abbrev pub JobReady : ℕ → Option Onu → Lane → Option Stage → (tlow asking : ℕ) → List Entry → Type 0
 JobReady lives unit low job tlow asking history =
@@ -45,6 +50,10 @@ ready_of lives unit low tlow asking history Asking h = h
 ready_of lives unit low tlow asking history (Gathering expected next copy) h = inl h
 ready_of lives unit low tlow asking history AskingAlarms h = tt
 ready_of lives unit low tlow asking history (GatheringRows expected next) h = tt
+ready_of lives unit low tlow asking history (StartingImage order asked image) h = tt
+ready_of lives unit low tlow asking history (SendingImage order outgoing resent) h = tt
+ready_of lives unit low tlow asking history (EndingImage order image busy) h = tt
+ready_of lives unit low tlow asking history (DelayingEnd order image busy) h = tt
 
 pub job_at : (lives : ℕ) (unit : Option Onu) (low : Lane) (job : Option Stage) (tlow asking : ℕ)
     (history : List Entry) (s : Stage) → job ≡ Some s
@@ -128,19 +137,19 @@ module _ (m : Manager) (link : Link) (lives : ℕ) (unit : Option Onu) (t : Told
         },
       )))
 
-  -- an audit asks for its next row
-  rows_next : (expected next : ℕ) (b : Bool) → is_free m.low ≡ b
-      → m.job ≡ Some (GatheringRows expected next)
-      → Goes (send_wish b (wish_of (GatheringRows expected next)) m) link lives unit t
-  rows_next expected next false e j =
+  -- an audit asks for its next row, and a download sends its next window or its end
+  freely_next : (s : Stage) (c : Command)
+      → ((low : Lane) (tlow : ℕ) → AtStage lives unit low tlow t.asking t.history s)
+      → (b : Bool) → is_free m.low ≡ b → m.job ≡ Some s
+      → Goes (send_wish b (Some (record { command = c; asks = false; stage = s })) m) link lives unit t
+  freely_next s c at false e j =
       goes_nothing m link lives unit t h
-      (job_at lives unit m.low m.job t.low t.asking t.history (GatheringRows expected next) j tt)
-  rows_next expected next true e j =
+      (job_at lives unit m.low m.job t.low t.asking t.history s j (at m.low t.low))
+  freely_next s c at true e j =
       let free = is_free_lane m.low e in
-      let c = job_command sync_entity (request.AlarmsNext next) in
-      goes_low false c (with_job (Some (GatheringRows expected next)) m) link lives unit t h free.none
-      (job_at lives unit (with_command c m.low) (Some (GatheringRows expected next)) t.drawn t.asking
-      t.history (GatheringRows expected next) refl tt)
+      goes_low false c (with_job (Some s) m) link lives unit t h free.none
+      (job_at lives unit (with_command c m.low) (Some s) t.drawn t.asking t.history s refl
+      (at (with_command c m.low) t.drawn))
 
   goes_by : (job : Option Stage) → m.job ≡ job
       → JobReady lives unit m.low job t.low t.asking t.history
@@ -152,7 +161,17 @@ module _ (m : Manager) (link : Link) (lives : ℕ) (unit : Option Onu) (t : Told
   goes_by (Some Asking) e r = goes_nothing m link lives unit t h (job_at lives unit m.low m.job t.low t.asking t.history Asking e (r Asking refl))
   goes_by (Some (Gathering expected next copy)) e r = asks_next expected next copy e (r (Gathering expected next copy) refl)
   goes_by (Some AskingAlarms) e r = goes_nothing m link lives unit t h (job_at lives unit m.low m.job t.low t.asking t.history AskingAlarms e tt)
-  goes_by (Some (GatheringRows expected next)) e r = rows_next expected next (is_free m.low) refl e
+  goes_by (Some (GatheringRows expected next)) e r =
+      freely_next (GatheringRows expected next) (job_command sync_entity (request.AlarmsNext next))
+      (λ low tlow. tt) (is_free m.low) refl e
+  goes_by (Some (StartingImage order asked image)) e r = goes_nothing m link lives unit t h (job_at lives unit m.low m.job t.low t.asking t.history (StartingImage order asked image) e tt)
+  goes_by (Some (SendingImage order outgoing resent)) e r =
+      freely_next (SendingImage order outgoing resent) (image_window order outgoing)
+      (λ low tlow. tt) (is_free m.low) refl e
+  goes_by (Some (EndingImage order image busy)) e r =
+      freely_next (EndingImage order image busy) (end_image_command order image)
+      (λ low tlow. tt) (is_free m.low) refl e
+  goes_by (Some (DelayingEnd order image busy)) e r = goes_nothing m link lives unit t h (job_at lives unit m.low m.job t.low t.asking t.history (DelayingEnd order image busy) e tt)
 
   pub goes_on : JobReady lives unit m.low m.job t.low t.asking t.history → Goes (job_goes_on m) link lives unit t
   unfolding job_goes_on

@@ -8,6 +8,9 @@ use Rattle.omci_types.specs.declared.Frame.{Frame}
 use Rattle.omci_types.specs.declared.Priority.TheVariants.{Low, High}
 use Rattle.tci_spec.specs.Tci.{priority_of, packet_tci}
 use Rattle.frame_spec.specs.Baseline.{checked_bytes, spelling}
+use Rattle.omci_types.specs.declared.EntityId.{EntityId}
+use Rattle.message_spec.specs.declared.Message.TheVariants.{Asked}
+use Rattle.message_spec.specs.declared.Request.{Request}
 use Rattle.message_spec.specs.declared.Request.TheVariants as request
 use Rattle.message_spec.specs.declared.Response.TheVariants as response
 use Rattle.message_spec.specs.Reading.{plain}
@@ -17,11 +20,11 @@ use Rattle.link_spec.specs.declared.Direction.TheVariants.{Down}
 use Rattle.link_spec.specs.Link.{Sent, lane_of}
 use Rattle.lane_spec.specs.declared.Purpose.{Purpose}
 use Rattle.lane_spec.specs.declared.Purpose.TheVariants as purpose
-use Rattle.lane_spec.specs.Command.{Command, sync_entity, job_command, command_frame}
+use Rattle.lane_spec.specs.Command.{sync_entity, job_command}
 use Rattle.lane_spec.specs.Lane.{Lane, Waiting}
-use Rattle.manager_spec.specs.Manager.{Stage, Probing, Asking, Gathering, AskingAlarms, GatheringRows, Manager}
+use Rattle.manager_spec.specs.Manager.{Stage, Probing, Asking, Gathering, AskingAlarms, GatheringRows, StartingImage, SendingImage, EndingImage, DelayingEnd, Manager}
 use Rattle.unit_spec.specs.Onu.{Onu, Snapshot, response_frame}
-use Rattle.history_spec.specs.History.{Entry, CarriedOut, TookReply, Remarked, TookSnapshot, Synced, TookAlarms, Audited, WasCarried, LastReply, LastSnapshot, SyncedRight}
+use Rattle.history_spec.specs.History.{Entry, CarriedOut, TookReply, Remarked, TookSnapshot, Synced, TookAlarms, Audited, Stored, Downloaded, WasCarried, LastReply, LastSnapshot, SyncedRight}
 use Rattle.world_spec.specs.History.{Told, name_at}
 use Rattle.resync_laws.specs.Databases.{IsWholeDatabase}
 use Rattle.resync_laws.proofs.Reading.{is_plain}
@@ -52,6 +55,8 @@ one_snapshot command a b (Remarked (TookSnapshot life c database) ∷ older) (in
 one_snapshot command a b (Remarked (Synced c other) ∷ older) h k = one_snapshot command a b older h k
 one_snapshot command a b (Remarked (TookAlarms life c alarms) ∷ older) h k = one_snapshot command a b older h k
 one_snapshot command a b (Remarked (Audited c table notices) ∷ older) h k = one_snapshot command a b older h k
+one_snapshot command a b (Remarked (Stored entry) ∷ older) h k = one_snapshot command a b older h k
+one_snapshot command a b (Remarked (Downloaded slot image) ∷ older) h k = one_snapshot command a b older h k
 
 -- ---- packets, each with its command's name
 
@@ -87,9 +92,10 @@ sent_at P (x ∷ packets) (n ∷ names) (suc i) s h e = sent_at P packets names 
 -- a command's packet, which asks for nothing to be put by or goes in the low lane
 pub record IsMade (s : Sent) : Type 0 where
   pub tci : ℕ
-  pub command : Command
-  pub bytes : s.bytes ≡ spelling (command_frame tci command)
-  pub lane : (lane_of s.bytes ≡ Low) ⊎ (is_plain command.request ≡ true)
+  pub entity : EntityId
+  pub request : Request
+  pub bytes : s.bytes ≡ spelling (plain (Asked tci entity request))
+  pub lane : (lane_of s.bytes ≡ Low) ⊎ (is_plain request ≡ true)
 
 abbrev pub IsSent : ℕ → Sent → ℕ → Type 0
 IsSent drawn s name = s.direction ≡ Down → (name < drawn) × IsMade s
@@ -110,6 +116,7 @@ pub record HighOut (low : Option Waiting) (drawn tlow thigh : ℕ) (w : Waiting)
   pub drawn_before : thigh < drawn
   pub plainly : is_plain w.command.request ≡ true
   pub callers : is_job w.command.purpose ≡ false
+  pub single : w.command.earlier ≡ []
   pub apart : (v : Waiting) → low ≡ Some v → thigh ≢ tlow
 
 pub record Lanes (low high : Lane) (drawn tlow thigh : ℕ) : Type 0 where
@@ -178,6 +185,10 @@ AtStage lives unit low tlow asking history (Gathering expected next copy) =
     × AsksNext low tlow history g.database next
 AtStage lives unit low tlow asking history AskingAlarms = Unit {0}
 AtStage lives unit low tlow asking history (GatheringRows expected next) = Unit {0}
+AtStage lives unit low tlow asking history (StartingImage order asked image) = Unit {0}
+AtStage lives unit low tlow asking history (SendingImage order outgoing resent) = Unit {0}
+AtStage lives unit low tlow asking history (EndingImage order image busy) = Unit {0}
+AtStage lives unit low tlow asking history (DelayingEnd order image busy) = Unit {0}
 
 abbrev pub JobOk : ℕ → Option Onu → Lane → Option Stage → (tlow asking : ℕ) → List Entry → Type 0
 JobOk lives unit low job tlow asking history =
@@ -235,16 +246,16 @@ good_of packets lives unit m t h j r = record {
 
 -- ---- the lane of a packet
 
-spelled_tci : (tci : ℕ) (c : Command) → tci < 2 ^ 16
-    → packet_tci (spelling (command_frame tci c)) ≡ tci
-unfolding spelling checked_bytes command_frame plain
-spelled_tci tci c fits = from_be_bytes-to_be_bytes_2 tci fits
+spelled_tci : (tci : ℕ) (entity : EntityId) (r : Request) → tci < 2 ^ 16
+    → packet_tci (spelling (plain (Asked tci entity r))) ≡ tci
+unfolding spelling checked_bytes plain
+spelled_tci tci entity r fits = from_be_bytes-to_be_bytes_2 tci fits
 
-pub goes_low : (tci : ℕ) (c : Command) → tci ≤ 32767
-    → lane_of (spelling (command_frame tci c)) ≡ Low
-goes_low tci c fits =
+pub goes_low : (tci : ℕ) (entity : EntityId) (r : Request) → tci ≤ 32767
+    → lane_of (spelling (plain (Asked tci entity r))) ≡ Low
+goes_low tci entity r fits =
     let test : nat_lt tci 32768 ≡ true = grind (arith, nat_tests) in
-    ap priority_of (spelled_tci tci c (omega (arith, fits))) ∙ ap (λ b. cond b Low High) test
+    ap priority_of (spelled_tci tci entity r (omega (arith, fits))) ∙ ap (λ b. cond b Low High) test
 
 pub not_high : {A : Type 0} (bytes : List ℕ) → lane_of bytes ≡ Low → lane_of bytes ≡ High → A
 not_high bytes a b = absurd (cc)

@@ -6,6 +6,7 @@ pub mod Reading
 pub mod Unit
 pub mod Gathering
 pub mod Invariants
+pub mod Passing
 pub mod Sending
 pub mod Telling
 pub mod Going

@@ -1,14 +1,19 @@
 -- Each line of a script keeps all well.
-use Rattle.std.proofs.Common.{◌≡◌, ◌≢◌, ℕ, ◌+◌, ◌-◌, Bool, true, false, List, [], ◌∷◌, ◌++◌, length, replicate, slice_get, Option, Some, None, refl, sym, ap, subst, ◌∙◌, arith, length-append}
+use Rattle.std.proofs.Common.{◌≡◌, ◌≢◌, ℕ, ◌+◌, Bool, true, false, List, [], ◌∷◌, ◌++◌, reverse, slice_get, Option, Some, None, refl, sym, ap, subst, ◌∙◌, arith}
 use Rattle.std.proofs.lemmas.Option.{same_Some}
-use Rattle.std.proofs.lemmas.List.{length-replicate, length-take-le}
 use Rattle.omci_types.specs.declared.EntityId.{EntityId}
 use Rattle.omci_types.specs.declared.Priority.{Priority}
-use Rattle.omci_types.specs.declared.SlotView.{SlotView}
+use Rattle.omci_types.specs.declared.Boot.{Boot}
+use Rattle.omci_types.specs.declared.Boot.TheVariants.{PowerUp}
+use Rattle.slot_spec.specs.declared.Pick.{Pick}
+use Rattle.slot_spec.specs.Slots.{SlotPair}
+use Rattle.store_spec.specs.State.{store_started, software_of}
+use Rattle.store_spec.specs.Deeds.{Deed}
+use Rattle.store_spec.specs.Effects.{entries_before}
 use Rattle.tci_spec.specs.Tci.{IsNumber}
 use Rattle.message_spec.specs.declared.Request.{Request}
 use Rattle.frame_spec.specs.Baseline.{fault_of, packet_frame}
-use Rattle.frame_spec.specs.Widths.{filled, front_filled}
+use Rattle.frame_spec.specs.Widths.{filled}
 use Rattle.script_spec.specs.Script.{Header}
 use Rattle.link_spec.specs.declared.Direction.{Direction}
 use Rattle.link_spec.specs.declared.Direction.TheVariants.{Down, Up}
@@ -22,32 +27,32 @@ use Rattle.mib_spec.specs.Requests.{sense_outcome}
 use Rattle.alarm_spec.specs.Log.{change}
 use Rattle.unit_spec.specs.declared.Noticed.{Noticed}
 use Rattle.unit_spec.specs.declared.Noticed.TheVariants as noticed
-use Rattle.unit_spec.specs.Noticing.{Noticing, sensed_as, onu_sensed, told_by, may_alarm, alarm_if, onu_alarmed}
+use Rattle.unit_spec.specs.Noticing.{Noticing, notice_unless_leaving, sensed_as, onu_sensed, told_by, may_alarm, alarm_if, onu_alarmed}
 use Rattle.manager_spec.specs.declared.Refusal.{Refusal}
 use Rattle.manager_spec.specs.declared.Report.TheVariants as report
 use Rattle.manager_spec.specs.Manager.{Manager, Outcome, with_report, manager_started}
-use Rattle.manager_spec.specs.Submitting.{Submission, unless_refused, probe_refusal, after_probe, submit_refusal, after_submit, check_refusal, after_check, resync_refusal, after_resync, audit_refusal, after_audit}
+use Rattle.manager_spec.specs.Submitting.{Submission, unless_refused, probe_refusal, after_probe, submit_refusal, after_submit, check_refusal, after_check, resync_refusal, after_resync, audit_refusal, after_audit, image_refusal, check_given, after_image}
 use Rattle.manager_spec.specs.Steps.{packet_dropped, for_frame, after_packet, after_tick}
-use Rattle.unit_spec.specs.Onu.{Onu, Reception, onu_started, onu_ticked}
-use Rattle.world_spec.specs.Happenings.{PacketCame, link_read}
-use Rattle.world_spec.specs.Ends.{Step, view_of, factory_software, not_enabled, preceded, manager_did, submission_step, submission, manager_got, manager_ticks, unit_did, unit_got, arrives_at, arrives, noise, unit_ticks, second, cut_unit, cut_manager, start_unit, start_manager, notice_sent, unit_notices}
-use Rattle.world_spec.specs.Nodes.{Nodes, first_nodes, delivery_of, delivery, nodes_after_step}
+use Rattle.unit_spec.specs.Onu.{Onu, Reception, onu_started, onu_ticked, packet_deed}
+use Rattle.world_spec.specs.Happenings.{PacketCame, PowerCut, link_read}
+use Rattle.world_spec.specs.Ends.{Step, factory_slots, not_enabled, preceded, stage_in, manager_did, submission_step, submission, manager_got, manager_ticks, stored, unit_did, unit_got, arrives_at, arrives, noise, unit_starts, restarts, unit_ticks, second, cut_unit, cut_manager, start_unit, cut_amid, unit_cut_amid, cut_at, cut_in, start_manager, notice_sent, unit_notices}
+use Rattle.world_spec.specs.Nodes.{Nodes, first_nodes, delivery_of, delivery, cut_of, cut_delivery, nodes_after_step}
 use Rattle.world_spec.specs.History.{Told, first_told, name_at, tell_all}
-use Rattle.resync_laws.specs.Databases.{IsWholeDatabase, HasVersions}
+use Rattle.resync_laws.specs.Databases.{IsWholeDatabase}
 use Rattle.resync_laws.proofs.Reading.{noise_read, is_plain}
-use Rattle.resync_laws.proofs.Databases.{first_whole, sense_whole}
+use Rattle.resync_laws.proofs.Databases.{first_whole, sense_whole, slots_versions}
 use Rattle.resync_laws.proofs.Unit.{noise_drops}
 use Rattle.resync_laws.proofs.Invariants.{Held, Good, held_of, good_of, sent_more, IsSent, IsApart}
 use Rattle.resync_laws.proofs.Telling.{tell_append, link_append, NoneSynced, none_more, Did, did_quiet, goes_nothing}
 use Rattle.resync_laws.proofs.Going.{job_none}
 use Rattle.resync_laws.proofs.Taking.{IsHeard, packet_good}
 use Rattle.resync_laws.proofs.Serving.{AreWaited, unit_good}
-use Rattle.resync_laws.proofs.Turns.{probe_good, check_good, resync_good, audit_good, submit_good, tick_good, IsOlder, ticked_older, nothing_older, stage_anew, good_older}
+use Rattle.resync_laws.proofs.Passing.{entries_good, IsOlder, ticked_older, nothing_older, stage_anew, good_older}
+use Rattle.resync_laws.proofs.Turns.{probe_good, check_good, resync_good, audit_good, image_good, submit_good, tick_good}
 
--- all is well, and the images that the unit starts with have versions of their width
+-- all is well
 pub record Fine (n : Nodes) (t : Told) : Type 0 where
   pub good : Good n.link.packets n.ends.lives n.ends.unit n.ends.manager t
-  pub versions : HasVersions n.ends.software
 
 abbrev pub StepFine : Step → Nodes → Told → Type 0
 StepFine s n t = Fine (nodes_after_step s n) (tell_all s.happenings t)
@@ -66,16 +71,16 @@ both_fine s r n t f =
 
 did_fine : (o : Outcome) (n : Nodes) (t : Told) → Fine n t
     → Did o n.link n.ends.lives n.ends.unit t → StepFine (manager_did o n.ends) n t
-did_fine o n t f d = record { good = d; versions = f.versions }
+did_fine o n t f d = record { good = d (stage_in n.ends.manager) }
 
 submitted : (r : Option Refusal) (o : Outcome) (m : Manager) (n : Nodes) (t : Told) → Fine n t
     → (r ≡ None → Did o n.link n.ends.lives n.ends.unit t)
     → StepFine (submission_step (unless_refused r o m) n.ends) n t
 submitted None o m n t f d = did_fine o n t f (d refl)
-submitted (Some refusal) o m n t f d = record { good = f.good; versions = f.versions }
+submitted (Some refusal) o m n t f d = record { good = f.good }
 
 not_enabled_fine : (n : Nodes) (t : Told) → Fine n t → StepFine (not_enabled n.ends) n t
-not_enabled_fine n t f = record { good = f.good; versions = f.versions }
+not_enabled_fine n t f = record { good = f.good }
 
 asked_fine : (call : Manager → Submission) (o : Option Manager) (n : Nodes) (t : Told) → Fine n t
     → n.ends.manager ≡ o
@@ -124,30 +129,65 @@ module _ (n : Nodes) (t : Told) (f : Fine n t) where
       asked_fine after_audit n.ends.manager n t f refl
       (λ m g. submitted (audit_refusal m) _ m n t f (λ e. audit_good m n.link n.ends.lives n.ends.unit t (held m g) (g.job m refl) (g.reports m refl) e))
 
+  pub image_fine : (slot asked : ℕ) (check : Option ℕ) (image : List ℕ)
+      → StepFine (submission (after_image slot asked check image) n.ends.manager n.ends) n t
+  unfolding after_image
+  image_fine slot asked check image =
+      asked_fine (after_image slot asked check image) n.ends.manager n t f refl
+      (λ m g. submitted (image_refusal m) _ m n t f (λ e. image_good m n.link n.ends.lives n.ends.unit t (held m g) (g.job m refl) (g.reports m refl) (record { slot = slot; check = check_given check image }) asked image e))
+
+  -- ---- a unit starts
+
+  pub unit_starts_fine : (boot : Boot) (slots : SlotPair) → StepFine (unit_starts boot slots n.ends) n t
+  unfolding onu_started
+  unit_starts_fine boot slots =
+      let after : Onu = onu_started boot n.ends.room slots in
+      record {
+        good = record {
+          sent = f.good.sent;
+          apart = f.good.apart;
+          lanes = f.good.lanes;
+          job = λ m e s g.
+              stage_anew n.ends.lives (n.ends.lives + 1) n.ends.unit (Some after) m.low t.low t.asking t.history s
+              (λ v x on has. let a = ap (λ (y : Onu). y.snapshot) (same_Some after v on) in absurd (cc)) (f.good.job m e s g);
+          reports = f.good.reports;
+          carried = f.good.carried;
+          whole = λ v e. subst (λ (x : Onu). IsWholeDatabase x.database) (same_Some after v e)
+              (first_whole (software_of (store_started boot slots)) (slots_versions (store_started boot slots).active slots));
+          right = f.good.right;
+        };
+      }
+
   -- ---- a second
 
   manager_ticked : (o : Option Manager) → n.ends.manager ≡ o → StepFine (manager_ticks o n.ends) n t
-  manager_ticked None e = record { good = f.good; versions = f.versions }
+  manager_ticked None e = record { good = f.good }
   manager_ticked (Some m) e =
       let g : Managed m = subst (λ x. Good n.link.packets n.ends.lives n.ends.unit x t) e f.good in
       did_fine (after_tick m) n t f (tick_good m n.link n.ends.lives n.ends.unit t (held m g) (g.job m refl) (g.reports m refl))
 
-  unit_ticked : (o : Option Onu) → n.ends.unit ≡ o → StepFine (unit_ticks o n.ends) n t
+  unit_older : (u : Onu) → n.ends.unit ≡ Some u → StepFine (restarts None u n.ends) n t
   unfolding onu_ticked
-  unit_ticked None e = record { good = f.good; versions = f.versions }
-  unit_ticked (Some u) e = record {
+  unit_older u e = record {
     good = good_older n.link.packets n.ends.lives n.ends.unit (Some (onu_ticked u)) n.ends.manager t
         (subst (λ x. IsOlder x (Some (onu_ticked u))) (sym e) (ticked_older u))
         (λ v k. subst (λ (x : Onu). IsWholeDatabase x.database) (same_Some (onu_ticked u) v k) (f.good.whole u e)) f.good;
-    versions = f.versions;
   }
+
+  unit_ticked : (o : Option Onu) → n.ends.unit ≡ o → StepFine (unit_ticks o n.ends) n t
+  unit_ticked None e = record { good = f.good }
+  unit_ticked (Some u) e = go u.leaving
+    where
+      go : (leaving : Option Boot) → StepFine (restarts leaving u n.ends) n t
+      go None = unit_older u e
+      go (Some boot) = unit_starts_fine boot u.store.slots
 
   -- ---- the unit notices something
 
   noticed_by : (o : Noticed) (packet : List ℕ) (w : Onu) → Good n.link.packets n.ends.lives (Some w) n.ends.manager t
       → StepFine (record { ends = record n.ends { unit = Some w }; happenings = notice_sent o packet }) n t
-  noticed_by noticed.NotAllowed packet w g = record { good = g; versions = f.versions }
-  noticed_by noticed.Same packet w g = record { good = g; versions = f.versions }
+  noticed_by noticed.NotAllowed packet w g = record { good = g }
+  noticed_by noticed.Same packet w g = record { good = g }
   noticed_by noticed.Sent packet w g = record {
     good = record {
       sent = sent_more (IsSent t.drawn) n.link.packets t.names _ _ g.sent (λ d. absurd (cc));
@@ -159,7 +199,6 @@ module _ (n : Nodes) (t : Told) (f : Fine n t) where
       whole = g.whole;
       right = g.right;
     };
-    versions = f.versions;
   }
 
   pub noticing_fine : (call : Onu → Noticing) (o : Option Onu) → n.ends.unit ≡ o
@@ -182,7 +221,6 @@ module _ (n : Nodes) (t : Told) (f : Fine n t) where
   cut_unit_fine (Some u) = record {
     good = good_older n.link.packets n.ends.lives n.ends.unit None n.ends.manager t
         (nothing_older n.ends.unit None (λ v s on has. absurd (cc))) (λ v e. absurd (cc)) f.good;
-    versions = f.versions;
   }
 
   pub cut_manager_fine : (o : Option Manager) → StepFine (cut_manager o n.ends) n t
@@ -198,27 +236,11 @@ module _ (n : Nodes) (t : Told) (f : Fine n t) where
       whole = f.good.whole;
       right = f.good.right;
     };
-    versions = f.versions;
   }
 
   pub start_unit_fine : (o : Option Onu) → StepFine (start_unit o n.ends) n t
-  unfolding onu_started
   start_unit_fine (Some u) = not_enabled_fine n t f
-  start_unit_fine None = record {
-    good = record {
-      sent = f.good.sent;
-      apart = f.good.apart;
-      lanes = f.good.lanes;
-      job = λ m e s g.
-          stage_anew n.ends.lives (n.ends.lives + 1) n.ends.unit (Some (onu_started n.ends.software)) m.low t.low t.asking t.history s
-          (λ v x on has. let a = ap (λ (y : Onu). y.snapshot) (same_Some (onu_started n.ends.software) v on) in absurd (cc)) (f.good.job m e s g);
-      reports = f.good.reports;
-      carried = f.good.carried;
-      whole = λ v e. subst (λ (x : Onu). IsWholeDatabase x.database) (same_Some (onu_started n.ends.software) v e) (first_whole n.ends.software f.versions);
-      right = f.good.right;
-    };
-    versions = f.versions;
-  }
+  start_unit_fine None = unit_starts_fine PowerUp n.ends.slots
 
   pub start_manager_fine : (low high : ℕ) (o : Option Manager) → IsNumber low → StepFine (start_manager low high o n.ends) n t
   start_manager_fine low high (Some m) a = not_enabled_fine n t f
@@ -238,7 +260,6 @@ module _ (n : Nodes) (t : Told) (f : Fine n t) where
           right = f.good.right;
         })
         (job_none n.ends.lives n.ends.unit _ None t.low t.asking t.history refl) refl;
-    versions = f.versions;
   }
 
   -- ---- noise
@@ -247,7 +268,7 @@ module _ (n : Nodes) (t : Told) (f : Fine n t) where
   unit_noise bytes None e k = not_enabled_fine n t f
   unit_noise bytes (Some u) e k =
       subst (λ (r : Reception). StepFine (preceded [] (unit_did r u n.ends)) n t) (sym (noise_drops bytes u k))
-      (record { good = subst (λ x. Good n.link.packets n.ends.lives x n.ends.manager t) e f.good; versions = f.versions })
+      (record { good = subst (λ x. Good n.link.packets n.ends.lives x n.ends.manager t) e f.good })
 
   manager_noise : (bytes : List ℕ) (o : Option Manager) → n.ends.manager ≡ o → packet_frame bytes ≡ None → StepFine (manager_got [] bytes o n.ends) n t
   unfolding after_packet
@@ -259,6 +280,17 @@ module _ (n : Nodes) (t : Told) (f : Fine n t) where
       (did_quiet (packet_dropped m) n.link n.ends.lives n.ends.unit t t refl
       (none_more m.reports report.Dropped (subst NoneSynced (sym (g.reports m refl)) tt) refl)
       (goes_nothing (with_report report.Dropped m) n.link n.ends.lives n.ends.unit t (held m g) (g.job m refl))))
+
+-- a unit that leaves notices nothing
+unless_snapshot : (leaving : Option Boot) (n : Noticing) (u : Onu) → n.unit.snapshot ≡ u.snapshot
+    → (notice_unless_leaving leaving n u).unit.snapshot ≡ u.snapshot
+unless_snapshot None n u e = e
+unless_snapshot (Some boot) n u e = refl
+
+unless_whole : (leaving : Option Boot) (n : Noticing) (u : Onu) → IsWholeDatabase n.unit.database
+    → IsWholeDatabase u.database → IsWholeDatabase (notice_unless_leaving leaving n u).unit.database
+unless_whole None n u h k = h
+unless_whole (Some boot) n u h k = k
 
 sensed_snapshot : (o : Sensed) (one : EntityId) (number : ℕ) (value : List ℕ) (db : Database) (u : Onu)
     → (sensed_as o one number value db u).unit.snapshot ≡ u.snapshot
@@ -278,8 +310,8 @@ pub sense_fine : (one : EntityId) (number : ℕ) (value : List ℕ) (n : Nodes) 
 unfolding onu_sensed
 sense_fine one number value n t f =
     noticing_fine n t f (onu_sensed one number value) n.ends.unit refl
-    (λ u. sensed_snapshot (sense_outcome one number value u.database).0 one number value (sense_outcome one number value u.database).1 u)
-    (λ u h. sensed_database (sense_outcome one number value u.database).0 one number value (sense_outcome one number value u.database).1 u (sense_whole one number value u.database h) h)
+    (λ u. unless_snapshot u.leaving _ u (sensed_snapshot (sense_outcome one number value u.database).0 one number value (sense_outcome one number value u.database).1 u))
+    (λ u h. unless_whole u.leaving _ u (sensed_database (sense_outcome one number value u.database).0 one number value (sense_outcome one number value u.database).1 u (sense_whole one number value u.database h) h) h)
 
 told_snapshot : (o : Option Notice) (one : EntityId) (u : Onu) → (told_by o one u).unit.snapshot ≡ u.snapshot
 told_snapshot None one u = refl
@@ -303,8 +335,8 @@ pub alarm_fine : (one : EntityId) (bitmap : List ℕ) (n : Nodes) (t : Told) →
 unfolding onu_alarmed
 alarm_fine one bitmap n t f =
     noticing_fine n t f (onu_alarmed one bitmap) n.ends.unit refl
-    (λ u. alarmed_snapshot (may_alarm one u.database) one bitmap u)
-    (λ u h. subst IsWholeDatabase (sym (alarmed_database (may_alarm one u.database) one bitmap u)) h)
+    (λ u. unless_snapshot u.leaving _ u (alarmed_snapshot (may_alarm one u.database) one bitmap u))
+    (λ u h. unless_whole u.leaving _ u (subst IsWholeDatabase (sym (alarmed_database (may_alarm one u.database) one bitmap u)) h) h)
 
 pub second_fine : (n : Nodes) (t : Told) → Fine n t → StepFine (second n.ends) n t
 unfolding second
@@ -362,7 +394,6 @@ module _ (number : ℕ) (s : Sent) (n : Nodes) (t : Told) (f : Fine n t) (k : Li
   unit_arrives (Some u) e way = record {
     good = unit_good number s n.link n.ends.lives u n.ends.manager t (subst (λ x. Good n.link.packets n.ends.lives x n.ends.manager t) e f.good)
         (allowed_is number n.link s may) way (k.waited number s u e may way);
-    versions = f.versions;
   }
 
   manager_arrives : (o : Option Manager) → n.ends.manager ≡ o → s.direction ≡ Up → StepFine (manager_got (PacketCame number s ∷ []) s.bytes o n.ends) n t
@@ -373,8 +404,8 @@ module _ (number : ℕ) (s : Sent) (n : Nodes) (t : Told) (f : Fine n t) (k : Li
         good = packet_good s.bytes m (delivered_on number s n.link) n.ends.lives n.ends.unit (came_told number s t)
             (held_came number s n.link.packets n.ends.unit m.low m.high t (held_of n.link.packets n.ends.lives n.ends.unit m t g))
             (g.job m refl) (g.reports m refl)
-            (λ w waits same lane probe. let x = k.heard number s m e may way w waits same lane probe in record { carried = x.carried; last = x.last });
-        versions = f.versions;
+            (λ w waits same lane probe. let x = k.heard number s m e may way w waits same lane probe in record { carried = x.carried; last = x.last })
+            (stage_in n.ends.manager);
       }
 
   arrives_by : (d : Direction) → s.direction ≡ d → StepFine (arrives_at d (PacketCame number s ∷ []) s.bytes n.ends) n t
@@ -385,10 +416,72 @@ module _ (number : ℕ) (s : Sent) (n : Nodes) (t : Told) (f : Fine n t) (k : Li
   unfolding arrives
   arrives_fine = arrives_by s.direction refl
 
+  -- ---- the power goes amid it
+
+  unit_off : (v : Told) → Good n.link.packets n.ends.lives n.ends.unit n.ends.manager v
+      → Good n.link.packets n.ends.lives None n.ends.manager v
+  unit_off v g =
+      good_older n.link.packets n.ends.lives n.ends.unit None n.ends.manager v
+      (nothing_older n.ends.unit None (λ x y on has. absurd (cc))) (λ x e. absurd (cc)) g
+
+  came_good : Good (delivered_on number s n.link).packets n.ends.lives n.ends.unit n.ends.manager (came_told number s t)
+  came_good = record {
+    sent = f.good.sent;
+    apart = f.good.apart;
+    lanes = f.good.lanes;
+    job = f.good.job;
+    reports = f.good.reports;
+    carried = f.good.carried;
+    whole = f.good.whole;
+    right = f.good.right;
+  }
+
+  cut_amid_fine : (call : ℕ) (pick : Pick) (d : Deed) (u : Onu)
+      → StepFine (preceded (PacketCame number s ∷ []) (cut_amid call pick d u n.ends)) n t
+  cut_amid_fine call pick d u =
+      let es = stored (entries_before d) in
+      let l = delivered_on number s n.link in
+      record {
+        good =
+            subst (λ (x : Link). Good x.packets n.ends.lives None n.ends.manager (tell_all (es ++ PowerCut ∷ []) (came_told number s t)))
+            (sym (link_append es (PowerCut ∷ []) l))
+            (subst (λ v. Good (link_read es l).packets n.ends.lives None n.ends.manager v)
+            (sym (tell_append es (PowerCut ∷ []) (came_told number s t)))
+            (entries_good (reverse (entries_before d)) l n.ends.lives None n.ends.manager (came_told number s t)
+            (unit_off (came_told number s t) came_good)));
+      }
+
+  unit_cut_fine : (call : ℕ) (pick : Pick) (o : Option Onu)
+      → StepFine (unit_cut_amid call pick (PacketCame number s ∷ []) s.bytes o n.ends) n t
+  unit_cut_fine call pick None = not_enabled_fine n t f
+  unit_cut_fine call pick (Some u) = cut_amid_fine call pick (packet_deed s.bytes u) u
+
+  cut_by : (call : ℕ) (pick : Pick) (d : Direction)
+      → StepFine (cut_at call pick d (PacketCame number s ∷ []) s.bytes n.ends) n t
+  cut_by call pick Down = unit_cut_fine call pick n.ends.unit
+  cut_by call pick Up = not_enabled_fine n t f
+
+  cut_in_fine : (call : ℕ) (pick : Pick) → StepFine (cut_in call pick number s n.ends) n t
+  unfolding cut_in
+  cut_in_fine call pick = cut_by call pick s.direction
+
 delivery_by : (o : Option Sent) (number : ℕ) (n : Nodes) (t : Told) → Fine n t → Linked n t → allowed number n.link ≡ o
     → StepFine (delivery_of o number n.ends) n t
 delivery_by None number n t f k may = not_enabled_fine n t f
 delivery_by (Some s) number n t f k may = arrives_fine number s n t f k may
+
+cut_of_fine : (call : ℕ) (pick : Pick) (o : Option Sent) (number : ℕ) (n : Nodes) (t : Told)
+    → Fine n t → Linked n t → allowed number n.link ≡ o
+    → StepFine (cut_of call pick o number n.ends) n t
+cut_of_fine call pick None number n t f k may = not_enabled_fine n t f
+cut_of_fine call pick (Some s) number n t f k may = cut_in_fine number s n t f k may call pick
+
+-- the power of the unit goes amid a delivery
+pub cut_delivery_fine : (call : ℕ) (pick : Pick) (number : ℕ) (n : Nodes) (t : Told) → Fine n t
+    → Linked n t → StepFine (cut_delivery call pick number n) n t
+unfolding cut_delivery
+cut_delivery_fine call pick number n t f k =
+    cut_of_fine call pick (allowed number n.link) number n t f k refl
 
 pub delivery_fine : (number : ℕ) (n : Nodes) (t : Told) → Fine n t → Linked n t → StepFine (delivery number n) n t
 unfolding delivery
@@ -396,35 +489,26 @@ delivery_fine number n t f k = delivery_by (allowed number n.link) number n t f 
 
 -- ---- at first
 
-version_wide : (image : List ℕ) → length (front_filled 14 image) ≡ 14
-version_wide image =
-    let a = length-append image (replicate (14 - length image) 0) in
-    let b = length-replicate {A = ℕ} (14 - length image) 0 in
-    length-take-le 14 (filled 14 image) (omega (arith, a, b))
-
-factory_versions : (image : List ℕ) → HasVersions (factory_software image)
-factory_versions image = record {
-  first = λ view e. ap (λ (v : SlotView). length v.version) (sym (same_Some (view_of image) view e)) ∙ version_wide image;
-  second = λ view e. absurd (cc);
-}
-
 pub first_fine : (h : Header) → IsNumber h.low → Fine (first_nodes h) first_told
 unfolding onu_started
-first_fine h a = record {
-  good = good_of [] 1 (Some (onu_started (factory_software h.factory))) (manager_started h.low h.high) first_told
-      (record {
-        sent = tt;
-        apart = λ w e. absurd (cc);
-        lanes = record {
-          priority = refl;
-          number = omega (arith, a.most);
-          low_out = λ w e. absurd (cc);
-          high_out = λ w e. absurd (cc);
-        };
-        carried = λ life command was. absurd was;
-        whole = λ v e. subst (λ (x : Onu). IsWholeDatabase x.database) (same_Some (onu_started (factory_software h.factory)) v e) (first_whole (factory_software h.factory) (factory_versions h.factory));
-        right = tt;
-      })
-      (job_none 1 _ _ None 0 0 [] refl) refl;
-  versions = factory_versions h.factory;
-}
+first_fine h a =
+    let slots : SlotPair = factory_slots h.factory in
+    let first : Onu = onu_started PowerUp h.room slots in
+    record {
+      good = good_of [] 1 (Some first) (manager_started h.low h.high) first_told
+          (record {
+            sent = tt;
+            apart = λ w e. absurd (cc);
+            lanes = record {
+              priority = refl;
+              number = omega (arith, a.most);
+              low_out = λ w e. absurd (cc);
+              high_out = λ w e. absurd (cc);
+            };
+            carried = λ life command was. absurd was;
+            whole = λ v e. subst (λ (x : Onu). IsWholeDatabase x.database) (same_Some first v e)
+                (first_whole (software_of (store_started PowerUp slots)) (slots_versions (store_started PowerUp slots).active slots));
+            right = tt;
+          })
+          (job_none 1 _ _ None 0 0 [] refl) refl;
+    }

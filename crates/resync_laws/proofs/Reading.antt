@@ -172,9 +172,9 @@ is_plain (request.UploadNext number) = false
 is_plain (request.Start window size targets target) = false
 is_plain (request.Section number bytes last) = false
 is_plain (request.End crc size targets target) = false
-is_plain (request.Activate flags) = false
-is_plain request.Commit = false
-is_plain (request.Reboot flags) = false
+is_plain (request.Activate flags) = true
+is_plain request.Commit = true
+is_plain (request.Reboot flags) = true
 
 -- a frame is read as such a request
 pub record IsPlainly (g : Frame) : Type 0 where
@@ -202,6 +202,9 @@ plain_asked tci entity (request.UploadNext number) g p e = absurd (false≢true 
 plain_asked tci entity (request.Start window size targets target) g p e = absurd (false≢true p)
 plain_asked tci entity (request.Section number bytes last) g p e = absurd (false≢true p)
 plain_asked tci entity (request.End crc size targets target) g p e = absurd (false≢true p)
-plain_asked tci entity (request.Activate flags) g p e = absurd (false≢true p)
-plain_asked tci entity request.Commit g p e = absurd (false≢true p)
-plain_asked tci entity (request.Reboot flags) g p e = absurd (false≢true p)
+plain_asked tci entity (request.Activate flags) g p e =
+    record { asked = _; is = message_read _ g (read_of _ g e) (kinds.Request action.Activate) refl; plainly = refl }
+plain_asked tci entity request.Commit g p e =
+    record { asked = _; is = message_read _ g (read_of _ g e) (kinds.Request action.Commit) refl; plainly = refl }
+plain_asked tci entity (request.Reboot flags) g p e =
+    record { asked = _; is = message_read _ g (read_of _ g e) (kinds.Request action.Reboot) refl; plainly = refl }

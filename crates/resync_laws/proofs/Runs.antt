@@ -2,21 +2,21 @@
 -- is taken from the laws of both ends.
 use Rattle.std.proofs.Common.{◌≡◌, ℕ, zero, suc, ◌+◌, ◌<◌, true, false, List, [], ◌∷◌, ◌++◌, Option, Some, None, refl, sym, ap, subst, ◌∙◌, arith, append-nil}
 use Rattle.std.proofs.lemmas.List.Elements.{All-nil, All-cons, All-head, All-tail}
-use Rattle.std.specs.Prelude.{slice_index_or}
-use Rattle.std.specs.List.{All, Contains}
+use Rattle.std.specs.List.{All}
 use Rattle.omci_types.specs.declared.Priority.{Priority}
 use Rattle.omci_types.specs.declared.Priority.TheVariants.{Low}
 use Rattle.tci_spec.specs.Tci.{IsNumber}
 use Rattle.message_spec.specs.declared.Request.TheVariants as request
-use Rattle.frame_spec.specs.Baseline.{spelling}
 use Rattle.frame_spec.specs.Widths.{filled}
 use Rattle.alarm_spec.specs.declared.TheConstants.{BITMAP_BYTES}
-use Rattle.script_spec.specs.Script.{Header, Action, Probe, Reset, Get, Create, Set, Delete, Resync, Audit, Check, Deliver, Flow, NoiseUnit, NoiseOlt, Tick, Sense, Alarm, CutUnit, CutOlt, StartUnit, StartOlt, IsAction}
+use Rattle.script_spec.specs.Script.{Header, Action, Probe, Reset, Get, Create, Set, Delete, Activate, Commit, Reboot, Resync, Audit, Check, Image, Deliver, Flow, CutIn, NoiseUnit, NoiseOlt, Tick, Sense, Alarm, CutUnit, CutOlt, StartUnit, StartOlt, IsAction}
 use Rattle.link_spec.specs.declared.Direction.{Direction}
 use Rattle.link_spec.specs.declared.Direction.TheVariants.{Down, Up}
 use Rattle.link_spec.specs.Link.{Sent, allowed}
-use Rattle.lane_spec.specs.Command.{sync_entity, is_probe, command_frame}
-use Rattle.lane_spec.specs.Lane.{Waiting, waiting_packets}
+use Rattle.lane_spec.specs.Command.{sync_entity, is_probe}
+use Rattle.lane_spec.specs.Lane.{Waiting}
+use Rattle.unit_spec.specs.declared.TheConstants.{ONU_G}
+use Rattle.manager_spec.specs.Upgrade.{image_entity}
 use Rattle.manager_spec.specs.Manager.{Manager, lane_in}
 use Rattle.unit_spec.specs.Onu.{Onu}
 use Rattle.history_spec.specs.History.{WasCarried, LastReply, SyncedRight}
@@ -27,7 +27,7 @@ use Rattle.world_spec.specs.History.{Told, first_told, drawn_in, tell_all, told_
 use Rattle.world_laws.specs.Facts.{AreReached, MayBeCarriedOut, MayBeTaken, IsAwaited}
 use Rattle.world_laws.proofs.Reading.{no_baseline}
 use Rattle.resync_laws.specs.Databases.{IsWholeDatabase}
-use Rattle.resync_laws.proofs.Lines.{Fine, StepFine, both_fine, probe_fine, submit_fine, check_fine, resync_fine, audit_fine, sense_fine, alarm_fine, second_fine, cut_unit_fine, cut_manager_fine, start_unit_fine, start_manager_fine, noise_fine, Linked, delivery_fine, first_fine}
+use Rattle.resync_laws.proofs.Lines.{Fine, StepFine, both_fine, probe_fine, submit_fine, check_fine, resync_fine, audit_fine, image_fine, sense_fine, alarm_fine, second_fine, cut_unit_fine, cut_manager_fine, start_unit_fine, start_manager_fine, noise_fine, Linked, cut_delivery_fine, delivery_fine, first_fine}
 
 -- ---- what the channel promises
 
@@ -150,21 +150,13 @@ reach_fresh k number n t e r =
 
 -- ---- what is known of the next packets
 
-pub first_at : (x y : List ℕ) (k : ℕ) → k < 1 → slice_index_or (x ∷ []) k y ≡ y → y ≡ x
-first_at x y zero lt e = sym e
-first_at x y (suc k) lt e = absurd (omega arith)
-
-one_packet : (w : Waiting) (bytes : List ℕ) → Contains (waiting_packets (Some w)) bytes
-    → bytes ≡ spelling (command_frame w.tci w.command)
-one_packet w bytes h = first_at (spelling (command_frame w.tci w.command)) bytes h.0 h.1 h.2
-
 module _ (p : Promises) where
   pub linked_of : (k : ℕ) (n : Nodes) (t : Told) → AreReached (with_event k n) t → Linked n t
   linked_of k n t r = record {
     waited = λ number s u on may way m note managed proved lane does.
         let x = p.awaited Low (with_event k n) t number s u m r managed proved
         (record { comes = record { may = may; goes = way; in_lane = lane }; on = on; note = note; does = does }) in
-        record { waiting = x.waiting; waits = x.waits; name = x.name; bytes_are = one_packet x.waiting s.bytes x.bytes };
+        record { waiting = x.waiting; waits = x.waits; name = x.name; among = x.bytes };
     heard = λ number s m managed may way w waits same lane probe.
         let taken : MayBeTaken Low (with_event k n) number s m w = record { comes = record { may = may; goes = way; in_lane = lane }; on = managed; waits = waits; same = same } in
         record {
@@ -179,7 +171,7 @@ module _ (p : Promises) where
       → AreReached (with_event k n) t
       → ((m : Nodes) (u : Told) (j : ℕ) → Fine m u → AreReached (with_event j m) u → StepFine (flow times m) m u)
       → StepFine (flow_from o (flow times) n) n t
-  flow_by None times k n t e f r rest = record { good = f.good; versions = f.versions }
+  flow_by None times k n t e f r rest = record { good = f.good }
   flow_by (Some number) times k n t e f r rest =
       let d : Step = delivery number n in
       let m : Nodes = nodes_after_step d n in
@@ -189,7 +181,7 @@ module _ (p : Promises) where
   flow_fine : (times : ℕ) (n : Nodes) (t : Told) (k : ℕ) → Fine n t → AreReached (with_event k n) t
       → StepFine (flow times n) n t
   unfolding flow
-  flow_fine zero n t k f r = record { good = f.good; versions = f.versions }
+  flow_fine zero n t k f r = record { good = f.good }
   flow_fine (suc times) n t k f r = flow_by (oldest_fresh n) times k n t refl f r (flow_fine times)
 
   -- ---- lines
@@ -206,6 +198,11 @@ module _ (p : Promises) where
   acted_fine Resync k n t f r h = resync_fine n t f
   acted_fine Audit k n t f r h = audit_fine n t f
   acted_fine Check k n t f r h = check_fine n t f
+  acted_fine (Activate lane slot) k n t f r h = submit_fine n t f lane (image_entity slot) (request.Activate 0) refl
+  acted_fine (Commit lane slot) k n t f r h = submit_fine n t f lane (image_entity slot) request.Commit refl
+  acted_fine (Reboot lane) k n t f r h = submit_fine n t f lane ONU_G (request.Reboot 0) refl
+  acted_fine (Image slot asked check image) k n t f r h = image_fine n t f slot asked check image
+  acted_fine (CutIn number call pick) k n t f r h = cut_delivery_fine call pick number n t f (linked_of k n t r)
   acted_fine (Deliver number) k n t f r h = delivery_fine number n t f (linked_of k n t r)
   acted_fine (Flow times) k n t f r h = flow_fine times n t k f r
   acted_fine (NoiseUnit bytes) k n t f r h = noise_fine Down bytes n t f (no_baseline bytes h.0.0)
@@ -222,8 +219,8 @@ module _ (p : Promises) where
       → Fine (step a n).nodes (tell_all (step a n).happenings t)
   unfolding step
   step_fine a n t f r h =
-      let k = acted_fine a n.ends.event (next_event n) t (record { good = f.good; versions = f.versions }) r h in
-      record { good = k.good; versions = k.versions }
+      let k = acted_fine a n.ends.event (next_event n) t (record { good = f.good }) r h in
+      record { good = k.good }
 
   script_fine : (actions : List Action) (n : Nodes) (t : Told) → Fine n t → AreReached n t
       → All IsAction actions → Fine (nodes_after actions n) (told_after actions n t)

@@ -1,5 +1,5 @@
 -- Packets that come to the manager.
-use Rattle.std.proofs.Common.{◌≡◌, ℕ, ◌+◌, ◌<◌, ◌≤◌, ◌^◌, Bool, true, false, eqb, ◌||◌, List, [], ◌∷◌, ◌++◌, length, replicate, Option, Some, None, Result, Ok, Err, ◌⊎◌, inl, inr, is_some, refl, sym, ap, subst, ◌∙◌, arith, nat_le, ◌==◌}
+use Rattle.std.proofs.Common.{◌≡◌, ℕ, ◌+◌, ◌<◌, ◌≤◌, ◌^◌, Bool, true, false, eqb, ◌||◌, List, [], ◌∷◌, ◌++◌, length, replicate, Option, Some, None, Result, Ok, Err, ◌⊎◌, inl, inr, is_some, refl, sym, ap, subst, ◌∙◌, arith, nat_le, nat_lt, min, ◌==◌}
 use Rattle.std.proofs.lemmas.Option.{same_Some}
 use Rattle.std.proofs.lemmas.Bool.{and_parts, false≢true, eqb-true}
 use Rattle.std.proofs.lemmas.Bool.Decides.{nat_tests}
@@ -7,7 +7,7 @@ use Rattle.omci_types.specs.declared.EntityId.{EntityId}
 use Rattle.omci_types.specs.declared.Frame.{Frame}
 use Rattle.omci_types.specs.declared.Priority.{Priority}
 use Rattle.omci_types.specs.declared.Priority.TheVariants.{Low, High}
-use Rattle.omci_types.specs.declared.TheConstants.Code.{SUCCESS}
+use Rattle.omci_types.specs.declared.TheConstants.Code.{SUCCESS, BUSY}
 use Rattle.frame_spec.specs.Baseline.{packet_frame}
 use Rattle.message_spec.specs.declared.ContentsFault.{ContentsFault}
 use Rattle.message_spec.specs.declared.Message.{Message}
@@ -37,16 +37,21 @@ use Rattle.manager_spec.specs.declared.Phase.{Phase}
 use Rattle.manager_spec.specs.declared.Phase.TheVariants as phase
 use Rattle.manager_spec.specs.declared.ResyncReason.{ResyncReason}
 use Rattle.manager_spec.specs.declared.ResyncReason.TheVariants as reason
+use Rattle.window_spec.specs.Outgoing.{Outgoing, new_outgoing, is_last, after_window}
+use Rattle.manager_spec.specs.declared.TheConstants.{MOST_RESENT, MOST_BUSY}
+use Rattle.manager_spec.specs.declared.ImageReason.{ImageReason}
+use Rattle.manager_spec.specs.declared.ImageReason.TheVariants as image_reason
 use Rattle.manager_spec.specs.declared.AuditReason.{AuditReason}
 use Rattle.manager_spec.specs.declared.AuditReason.TheVariants as audit
 use Rattle.manager_spec.specs.declared.Report.{Report}
 use Rattle.manager_spec.specs.declared.Report.TheVariants as report
-use Rattle.manager_spec.specs.Manager.{Stage, Probing, Asking, Gathering, AskingAlarms, GatheringRows, Manager, sends_nothing, lane_in, with_lane, with_report, phase_left, leave_step, and_then}
-use Rattle.manager_spec.specs.Copying.{followed_if, followed}
+use Rattle.manager_spec.specs.Manager.{Stage, Probing, Asking, Gathering, AskingAlarms, GatheringRows, StartingImage, SendingImage, EndingImage, DelayingEnd, Order, Manager, sends_nothing, lane_in, with_lane, with_report, phase_left, leave_step, and_then}
+use Rattle.manager_spec.specs.Copying.{followed_if, followed, counted_in_step}
+use Rattle.manager_spec.specs.Upgrade.{image_failed, started_if, image_started, window_taken, window_refused, window_by, window_answered, busy_if, end_by, end_answered}
 use Rattle.manager_spec.specs.Resync.{with_job, resync_failed, resync_done, done_if_counted, gather_unless_all, gather_on, piece_by, piece_came}
 use Rattle.manager_spec.specs.Audit.{with_table, audit_failed, audit_done, rows_unless_all, rows_on, row_by, audit_lost, notice_taken, alarm_as, alarm_came, notice_came}
 use Rattle.manager_spec.specs.Jobs.{job_goes_on}
-use Rattle.manager_spec.specs.Steps.{response_of, code_of, first_value, with_taken, job_probed, probe_taken, followed_by, expected_counter, compared, counters_compared, checked_if, checked_by, freed, upload_by, piece_by_reply, alarms_by, row_by_reply, job_by, taken_as, packet_dropped, not_taken, take_if, frame_came, for_frame, after_packet}
+use Rattle.manager_spec.specs.Steps.{response_of, code_of, first_value, with_taken, job_probed, probe_taken, followed_by, expected_counter, compared, counters_compared, checked_if, checked_by, freed, upload_by, piece_by_reply, alarms_by, row_by_reply, start_by_reply, window_by_reply, end_by_reply, job_by, taken_as, packet_dropped, not_taken, take_if, frame_came, for_frame, after_packet}
 use Rattle.unit_spec.specs.Onu.{Onu, Snapshot, response_frame}
 use Rattle.history_spec.specs.History.{Entry, TookReply, WasCarried, LastReply, LastSnapshot}
 use Rattle.world_spec.specs.History.{Told, drawn_in, answers_in}
@@ -115,6 +120,130 @@ fails_audit why m = record {
   job = refl;
   reports = λ n. none_more m.reports (report.AuditFailed why) n refl;
 }
+
+pub fails_image : (why : ImageReason) (m : Manager) → Fails m (image_failed why m)
+fails_image why m = record {
+  low = refl;
+  high = refl;
+  job = refl;
+  reports = λ n. none_more m.reports (report.ImageFailed why) n refl;
+}
+
+-- ---- a download goes on, or ends
+
+abbrev pub IsImageStage : Stage → Type 0
+IsImageStage (Probing high low) = ⊥
+IsImageStage Asking = ⊥
+IsImageStage (Gathering expected next copy) = ⊥
+IsImageStage AskingAlarms = ⊥
+IsImageStage (GatheringRows expected next) = ⊥
+IsImageStage (StartingImage order asked image) = Unit {0}
+IsImageStage (SendingImage order outgoing resent) = Unit {0}
+IsImageStage (EndingImage order image busy) = Unit {0}
+IsImageStage (DelayingEnd order image busy) = Unit {0}
+
+-- its lanes are left alone, and no other job begins
+pub record Downloads (a b : Manager) : Type 0 where
+  pub low : b.low ≡ a.low
+  pub high : b.high ≡ a.high
+  pub job : (s : Stage) → b.job ≡ Some s → IsImageStage s
+  pub reports : NoneSynced a.reports → NoneSynced b.reports
+
+downloads_at : (s : Stage) (m : Manager) → IsImageStage s → Downloads m (with_job (Some s) m)
+downloads_at s m h = record {
+  low = refl;
+  high = refl;
+  job = λ x e. subst IsImageStage (same_Some s x e) h;
+  reports = λ n. n;
+}
+
+downloads_failed : (why : ImageReason) (m : Manager) → Downloads m (image_failed why m)
+downloads_failed why m = record {
+  low = refl;
+  high = refl;
+  job = λ x e. absurd (cc);
+  reports = λ n. none_more m.reports (report.ImageFailed why) n refl;
+}
+
+downloads_started : (b : Bool) (number granted : ℕ) (order : Order) (asked : ℕ) (image : List ℕ)
+    (m : Manager) → Downloads m (started_if b number granted order asked image m)
+unfolding counted_in_step
+downloads_started true number granted order asked image m = record {
+  low = refl;
+  high = refl;
+  job = λ x e. subst IsImageStage (same_Some (SendingImage order (new_outgoing image (min asked granted)) 0) x e) tt;
+  reports = λ n. n;
+}
+downloads_started false number granted order asked image m =
+    downloads_failed (image_reason.Code (record { 0 = number })) m
+
+pub start_downloads : (number granted : ℕ) (order : Order) (asked : ℕ) (image : List ℕ)
+    (m : Manager) → Downloads m (image_started number granted order asked image m)
+unfolding image_started
+start_downloads number granted order asked image m =
+    downloads_started (number == SUCCESS.0) number granted order asked image m
+
+window_taken_downloads : (last : Bool) (order : Order) (o : Outgoing) (m : Manager)
+    → Downloads m (window_taken last order o m)
+window_taken_downloads true order o m = downloads_at (EndingImage order o.image 0) m tt
+window_taken_downloads false order o m = downloads_at (SendingImage order (after_window o) 0) m tt
+
+window_refused_downloads : (more : Bool) (number : ℕ) (order : Order) (o : Outgoing) (resent : ℕ)
+    (m : Manager) → Downloads m (window_refused more number order o resent m)
+window_refused_downloads true number order o resent m =
+    downloads_at (SendingImage order o (resent + 1)) m tt
+window_refused_downloads false number order o resent m =
+    downloads_failed (image_reason.Code (record { 0 = number })) m
+
+window_by_downloads : (good : Bool) (number : ℕ) (order : Order) (o : Outgoing) (resent : ℕ)
+    (m : Manager) → Downloads m (window_by good number order o resent m)
+window_by_downloads true number order o resent m = window_taken_downloads (is_last o) order o m
+window_by_downloads false number order o resent m =
+    window_refused_downloads (nat_lt resent MOST_RESENT) number order o resent m
+
+pub window_downloads : (number : ℕ) (order : Order) (o : Outgoing) (resent : ℕ) (m : Manager)
+    → Downloads m (window_answered number order o resent m)
+unfolding window_answered
+window_downloads number order o resent m =
+    window_by_downloads (number == SUCCESS.0) number order o resent m
+
+busy_downloads : (more : Bool) (order : Order) (image : List ℕ) (times : ℕ) (m : Manager)
+    → Downloads m (busy_if more order image times (with_report (report.Busy times) m))
+busy_downloads true order image times m = record {
+  low = refl;
+  high = refl;
+  job = λ x e. subst IsImageStage (same_Some (DelayingEnd order image times) x e) tt;
+  reports = λ n. none_more m.reports (report.Busy times) n refl;
+}
+busy_downloads false order image times m = record {
+  low = refl;
+  high = refl;
+  job = λ x e. absurd (cc);
+  reports = λ n.
+      none_more (with_report (report.Busy times) m).reports
+      (report.ImageFailed (image_reason.Code (record { 0 = BUSY.0 })))
+      (none_more m.reports (report.Busy times) n refl) refl;
+}
+
+end_by_downloads : (done busy : Bool) (number : ℕ) (order : Order) (image : List ℕ) (times : ℕ)
+    (m : Manager) → Downloads m (end_by done busy number order image times m)
+unfolding counted_in_step
+end_by_downloads true busy number order image times m = record {
+  low = refl;
+  high = refl;
+  job = λ x e. absurd (cc);
+  reports = λ n. none_more m.reports (report.ImageDone order.slot) n refl;
+}
+end_by_downloads false true number order image times m =
+    busy_downloads (nat_le (times + 1) MOST_BUSY) order image (times + 1) m
+end_by_downloads false false number order image times m =
+    downloads_failed (image_reason.Code (record { 0 = number })) m
+
+pub end_downloads : (number : ℕ) (order : Order) (image : List ℕ) (times : ℕ) (m : Manager)
+    → Downloads m (end_answered number order image times m)
+unfolding end_answered
+end_downloads number order image times m =
+    end_by_downloads (number == SUCCESS.0) (number == BUSY.0) number order image times m
 
 -- ---- the copy follows, the counters are compared
 
@@ -188,6 +317,10 @@ unfolding gathers_took
 stage_took lives unit low tlow asking name bytes history (Probing high' low') h = tt
 stage_took lives unit low tlow asking name bytes history AskingAlarms h = tt
 stage_took lives unit low tlow asking name bytes history (GatheringRows expected next) h = tt
+stage_took lives unit low tlow asking name bytes history (StartingImage order asked image) h = tt
+stage_took lives unit low tlow asking name bytes history (SendingImage order outgoing resent) h = tt
+stage_took lives unit low tlow asking name bytes history (EndingImage order image busy) h = tt
+stage_took lives unit low tlow asking name bytes history (DelayingEnd order image busy) h = tt
 stage_took lives unit low tlow asking name bytes history Asking h = record {
   proved = h.proved;
   waiting = h.waiting;
@@ -414,6 +547,10 @@ module _ (m : Manager) (link : Link) (lives : ℕ) (unit : Option Onu) (t : Told
   audit_lost_on (Some (Gathering expected next copy)) why b k = mild_on b k
   audit_lost_on (Some AskingAlarms) why b k = failed_on why b k
   audit_lost_on (Some (GatheringRows expected next)) why b k = failed_on why b k
+  audit_lost_on (Some (StartingImage order asked image)) why b k = mild_on b k
+  audit_lost_on (Some (SendingImage order outgoing resent)) why b k = mild_on b k
+  audit_lost_on (Some (EndingImage order image busy)) why b k = mild_on b k
+  audit_lost_on (Some (DelayingEnd order image busy)) why b k = mild_on b k
 
   taken_on : (one : EntityId) (bitmap : List ℕ) (b : Manager) → Mild m b → Did (notice_taken one bitmap b) link lives unit t
   taken_on one bitmap b k =
@@ -471,6 +608,10 @@ module _ (bytes : List ℕ) (f : Frame) (read : packet_frame bytes ≡ Some f) (
     others_ready callers (Probing high' low') e history = tt
     others_ready callers AskingAlarms e history = tt
     others_ready callers (GatheringRows expected next) e history = tt
+    others_ready callers (StartingImage order asked image) e history = tt
+    others_ready callers (SendingImage order outgoing resent) e history = tt
+    others_ready callers (EndingImage order image busy) e history = tt
+    others_ready callers (DelayingEnd order image busy) e history = tt
     others_ready callers Asking e history = not_job w.command.purpose (asking_purpose (j Asking e)) callers
     others_ready callers (Gathering expected next copy) e history = let at = j (Gathering expected next copy) e in not_job w.command.purpose (next_purpose at.0.database next at.1) callers
 
@@ -479,6 +620,10 @@ module _ (bytes : List ℕ) (f : Frame) (read : packet_frame bytes ≡ Some f) (
     probed_low callers (Some (Probing high' low')) e s g = subst (Ready lives unit low_free.low t.low t.asking t.history) (same_Some (Probing high' false) s g) tt
     probed_low callers (Some AskingAlarms) e s g = subst (Ready lives unit low_free.low t.low t.asking t.history) (same_Some AskingAlarms s g) tt
     probed_low callers (Some (GatheringRows expected next)) e s g = subst (Ready lives unit low_free.low t.low t.asking t.history) (same_Some (GatheringRows expected next) s g) tt
+    probed_low callers (Some (StartingImage order asked image)) e s g = subst (Ready lives unit low_free.low t.low t.asking t.history) (same_Some (StartingImage order asked image) s g) tt
+    probed_low callers (Some (SendingImage order outgoing resent)) e s g = subst (Ready lives unit low_free.low t.low t.asking t.history) (same_Some (SendingImage order outgoing resent) s g) tt
+    probed_low callers (Some (EndingImage order image busy)) e s g = subst (Ready lives unit low_free.low t.low t.asking t.history) (same_Some (EndingImage order image busy) s g) tt
+    probed_low callers (Some (DelayingEnd order image busy)) e s g = subst (Ready lives unit low_free.low t.low t.asking t.history) (same_Some (DelayingEnd order image busy) s g) tt
     probed_low callers (Some Asking) e s g = not_job w.command.purpose (asking_purpose (j Asking e)) callers
     probed_low callers (Some (Gathering expected next copy)) e s g = let at = j (Gathering expected next copy) e in not_job w.command.purpose (next_purpose at.0.database next at.1) callers
 
@@ -510,6 +655,39 @@ module _ (bytes : List ℕ) (f : Frame) (read : packet_frame bytes ≡ Some f) (
     row_reply_on (Some (response.AlarmsNext row)) expected next e = row_on low_free link lives unit t (held_took Low link unit low_free.low low_free.high t low_held) quiet (row_fault row (gathered m.table)) expected next row
     row_reply_on _ expected next e = freed_on (Some (GatheringRows expected next)) e (λ x g. subst (Ready lives unit low_free.low t.low t.asking (took_told Low t).history) (same_Some (GatheringRows expected next) x g) tt)
 
+    -- a download goes on, or ends
+    image_ready : (s : Stage) → IsImageStage s → (low : Lane) → Ready lives unit low t.low t.asking (took_told Low t).history s
+    image_ready (Probing high' low') h low = absurd h
+    image_ready Asking h low = absurd h
+    image_ready (Gathering expected next copy) h low = absurd h
+    image_ready AskingAlarms h low = absurd h
+    image_ready (GatheringRows expected next) h low = absurd h
+    image_ready (StartingImage order asked image) h low = tt
+    image_ready (SendingImage order outgoing resent) h low = tt
+    image_ready (EndingImage order image busy) h low = tt
+    image_ready (DelayingEnd order image busy) h low = tt
+
+    download_on : (b : Manager) → Downloads low_free b → Did (and_then (with_taken Low b) job_goes_on) link lives unit t
+    download_on b k =
+        did_then (with_taken Low b) link lives unit t (took_told Low t) refl refl
+        (k.reports (subst NoneSynced (sym quiet) tt)) refl
+        (subst (λ l. Held link.packets unit l b.high (took_told Low t)) (sym k.low)
+        (subst (λ l. Held link.packets unit low_free.low l (took_told Low t)) (sym k.high)
+        (held_took Low link unit low_free.low low_free.high t low_held)))
+        (λ s e. image_ready s (k.job s e) b.low)
+
+    start_reply_on : (r : Option Response) (order : Order) (asked : ℕ) (image : List ℕ) → m.job ≡ Some (StartingImage order asked image) → Did (and_then (with_taken Low (start_by_reply r order asked image f low_free)) job_goes_on) link lives unit t
+    start_reply_on (Some (response.Start code window)) order asked image e = download_on _ (start_downloads code.0 window order asked image low_free)
+    start_reply_on _ order asked image e = freed_on (Some (StartingImage order asked image)) e (λ x g. subst (Ready lives unit low_free.low t.low t.asking (took_told Low t).history) (same_Some (StartingImage order asked image) x g) tt)
+
+    window_reply_on : (r : Option Response) (order : Order) (outgoing : Outgoing) (resent : ℕ) → m.job ≡ Some (SendingImage order outgoing resent) → Did (and_then (with_taken Low (window_by_reply r order outgoing resent f low_free)) job_goes_on) link lives unit t
+    window_reply_on (Some (response.Section code number)) order outgoing resent e = download_on _ (window_downloads code.0 order outgoing resent low_free)
+    window_reply_on _ order outgoing resent e = freed_on (Some (SendingImage order outgoing resent)) e (λ x g. subst (Ready lives unit low_free.low t.low t.asking (took_told Low t).history) (same_Some (SendingImage order outgoing resent) x g) tt)
+
+    end_reply_on : (r : Option Response) (order : Order) (image : List ℕ) (busy : ℕ) → m.job ≡ Some (EndingImage order image busy) → Did (and_then (with_taken Low (end_by_reply r order image busy f low_free)) job_goes_on) link lives unit t
+    end_reply_on (Some (response.End code)) order image busy e = download_on _ (end_downloads code.0 order image busy low_free)
+    end_reply_on _ order image busy e = freed_on (Some (EndingImage order image busy)) e (λ x g. subst (Ready lives unit low_free.low t.low t.asking (took_told Low t).history) (same_Some (EndingImage order image busy) x g) tt)
+
     job_on : IsOwn lives t bytes → (job : Option Stage) → m.job ≡ job → Did (and_then (with_taken Low (job_by job (response_of f) f low_free)) job_goes_on) link lives unit t
     job_on own None e = freed_on None e (λ x g. absurd (cc))
     job_on own (Some (Probing high' low')) e = freed_on (Some (Probing high' low')) e (λ x g. subst (Ready lives unit low_free.low t.low t.asking (took_told Low t).history) (same_Some (Probing high' low') x g) tt)
@@ -532,6 +710,10 @@ module _ (bytes : List ℕ) (f : Frame) (read : packet_frame bytes ≡ Some f) (
         g.database g.whole g.few g.last g.put_by expected next copy p.piece g.count g.front p.from)
     job_on own (Some AskingAlarms) e = alarms_on (response_of f) e
     job_on own (Some (GatheringRows expected next)) e = row_reply_on (response_of f) expected next e
+    job_on own (Some (StartingImage order asked image)) e = start_reply_on (response_of f) order asked image e
+    job_on own (Some (SendingImage order outgoing resent)) e = window_reply_on (response_of f) order outgoing resent e
+    job_on own (Some (EndingImage order image busy)) e = end_reply_on (response_of f) order image busy e
+    job_on own (Some (DelayingEnd order image busy)) e = freed_on (Some (DelayingEnd order image busy)) e (λ x g. subst (Ready lives unit low_free.low t.low t.asking (took_told Low t).history) (same_Some (DelayingEnd order image busy) x g) tt)
 
     taken_low : (is_probe w.command.purpose ≡ false → IsOwn lives t bytes) → (p : Purpose) → w.command.purpose ≡ p → Did (and_then (taken_as p Low w.command f low_free) job_goes_on) link lives unit t
     taken_low own purpose.Probe e =
@@ -558,6 +740,10 @@ module _ (bytes : List ℕ) (f : Frame) (read : packet_frame bytes ≡ Some f) (
     probed_high (Some (Probing high' low')) e s g = subst (Ready lives unit m.low t.low t.asking t.history) (same_Some (Probing false low') s g) tt
     probed_high (Some AskingAlarms) e s g = subst (Ready lives unit m.low t.low t.asking t.history) (same_Some AskingAlarms s g) tt
     probed_high (Some (GatheringRows expected next)) e s g = subst (Ready lives unit m.low t.low t.asking t.history) (same_Some (GatheringRows expected next) s g) tt
+    probed_high (Some (StartingImage order asked image)) e s g = subst (Ready lives unit m.low t.low t.asking t.history) (same_Some (StartingImage order asked image) s g) tt
+    probed_high (Some (SendingImage order outgoing resent)) e s g = subst (Ready lives unit m.low t.low t.asking t.history) (same_Some (SendingImage order outgoing resent) s g) tt
+    probed_high (Some (EndingImage order image busy)) e s g = subst (Ready lives unit m.low t.low t.asking t.history) (same_Some (EndingImage order image busy) s g) tt
+    probed_high (Some (DelayingEnd order image busy)) e s g = subst (Ready lives unit m.low t.low t.asking t.history) (same_Some (DelayingEnd order image busy) s g) tt
     probed_high (Some Asking) e s g = subst (Ready lives unit m.low t.low t.asking t.history) (same_Some Asking s g) (j Asking e)
     probed_high (Some (Gathering expected next copy)) e s g = subst (Ready lives unit m.low t.low t.asking t.history) (same_Some (Gathering expected next copy) s g) (inl (j (Gathering expected next copy) e))
 

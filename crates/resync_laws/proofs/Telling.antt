@@ -1,25 +1,26 @@
 -- What is told of a step of the manager: of the replies that it took, of its reports, and of what it
 -- sent.
-use Rattle.std.proofs.Common.{◌≡◌, ℕ, Bool, true, false, cond, List, [], ◌∷◌, ◌++◌, map, Option, Some, None, refl, sym, ap, subst, ◌∙◌, append_assoc}
+use Rattle.std.proofs.Common.{◌≡◌, ◌≢◌, ℕ, ◌+◌, ◌<◌, Bool, true, false, cond, List, [], ◌∷◌, ◌++◌, map, Option, Some, None, refl, sym, ap, subst, ◌∙◌, append_assoc, arith}
 use Rattle.std.specs.List.{flat_map}
 use Rattle.omci_types.specs.declared.Priority.{Priority}
 use Rattle.omci_types.specs.declared.Priority.TheVariants.{Low, High}
 use Rattle.upload_spec.specs.Pieces.{Copy}
 use Rattle.link_spec.specs.Link.{Link}
-use Rattle.lane_spec.specs.Command.{Command}
-use Rattle.lane_spec.specs.Lane.{with_command}
+use Rattle.lane_spec.specs.Command.{Command, command_packets}
+use Rattle.lane_spec.specs.Lane.{Waiting, next_tci, with_command}
 use Rattle.manager_spec.specs.declared.Report.{Report}
 use Rattle.manager_spec.specs.declared.Report.TheVariants as report
-use Rattle.manager_spec.specs.Manager.{Manager, Outcome, Sending, sends_nothing, and_then, command_sent}
+use Rattle.manager_spec.specs.Manager.{Stage, Manager, Outcome, Sending, sends_nothing, and_then, command_sent}
 use Rattle.unit_spec.specs.Onu.{Onu}
 use Rattle.alarm_spec.specs.Alarms.{Alarm}
 use Rattle.history_spec.specs.History.{Remarked, Synced, Audited}
 use Rattle.world_spec.specs.Happenings.{Happening, ReplyTaken, NoticeTaken, on_link, link_read}
-use Rattle.world_spec.specs.Ends.{sends, copy_told, result_told, report_told}
+use Rattle.world_spec.specs.Ends.{goes_down, sends, copy_told, download_told, result_told, report_told}
 use Rattle.world_spec.specs.History.{Told, tell, tell_all}
 use Rattle.resync_laws.proofs.Reading.{is_plain}
 use Rattle.resync_laws.proofs.Invariants.{JobOk, Held, Good, good_of, is_job}
-use Rattle.resync_laws.proofs.Sending.{held_low, held_high}
+use Rattle.resync_laws.proofs.Passing.{downloads_good, link_downloads}
+use Rattle.resync_laws.proofs.Sending.{drawn_low, drawn_high, held_low, held_high, low_fits, packets_low, low_packets, high_packets, sent_names}
 
 -- ---- one after the other
 
@@ -100,7 +101,7 @@ link_noticed (x ∷ notices) l = link_noticed notices l
 abbrev pub taken_deeds : Outcome → List Happening
 taken_deeds o = map ReplyTaken o.taken ++ map NoticeTaken o.noticed
 
--- all that happens in it
+-- all that happens in it, but for a download that has ended
 abbrev pub deeds_of : Outcome → List Happening
 deeds_of o =
     map ReplyTaken o.taken
@@ -108,11 +109,16 @@ deeds_of o =
     ++ flat_map (report_told o.manager) o.manager.reports
     ++ flat_map sends o.sendings
 
--- all is well after it, and its reports are taken out
+-- the same with it, where the job was at such a stage before
+abbrev pub all_deeds : Option Stage → Outcome → List Happening
+all_deeds before o = deeds_of o ++ flat_map (download_told before) o.manager.reports
+
+-- all is well after it, whatever its job was before, and its reports are taken out
 abbrev pub Did : Outcome → Link → ℕ → Option Onu → Told → Type 0
 Did o link lives unit t =
-    Good (link_read (deeds_of o) link).packets lives unit (Some (record o.manager { reports = [] }))
-    (tell_all (deeds_of o) t)
+    (before : Option Stage)
+    → Good (link_read (all_deeds before o) link).packets lives unit
+    (Some (record o.manager { reports = [] })) (tell_all (all_deeds before o) t)
 
 -- all is well but for the reports, after what it sent
 pub record Goes (o : Outcome) (link : Link) (lives : ℕ) (unit : Option Onu) (t : Told) : Type 0 where
@@ -148,12 +154,17 @@ did_after : (o : Outcome) (link : Link) (lives : ℕ) (unit : Option Onu) (t u v
     → tell_all (taken_deeds o) t ≡ u
     → tell_all (flat_map (report_told o.manager) o.manager.reports) u ≡ v
     → Goes o link lives unit v → Did o link lives unit t
-did_after o link lives unit t u v e f g =
-    subst (λ l. Good l.packets lives unit (Some (record o.manager { reports = [] })) (tell_all (deeds_of o) t))
-    (sym (did_link o link))
-    (subst (λ x. Good (link_read (flat_map sends o.sendings) link).packets lives unit (Some (record o.manager { reports = [] })) x)
-    (sym (did_told o t u v e f))
-    (good_of _ lives unit (record o.manager { reports = [] }) _ g.held g.job refl))
+did_after o link lives unit t u v e f g before =
+    let ended = flat_map (download_told before) o.manager.reports in
+    let after : Manager = record o.manager { reports = [] } in
+    let sent = flat_map sends o.sendings in
+    subst (λ l. Good l.packets lives unit (Some after) (tell_all (deeds_of o ++ ended) t))
+    (sym (link_append (deeds_of o) ended link
+    ∙ link_downloads before o.manager.reports (link_read (deeds_of o) link) ∙ did_link o link))
+    (subst (λ x. Good (link_read sent link).packets lives unit (Some after) x)
+    (sym (tell_append (deeds_of o) ended t ∙ ap (tell_all ended) (did_told o t u v e f)))
+    (downloads_good before o.manager.reports (link_read sent link).packets lives unit (Some after)
+    (tell_all sent v) (good_of _ lives unit after _ g.held g.job refl)))
 
 -- a step that ends no resynchronisation well
 pub did_quiet : (o : Outcome) (link : Link) (lives : ℕ) (unit : Option Onu) (t u : Told)
@@ -196,23 +207,85 @@ pub goes_nothing : (m : Manager) (link : Link) (lives : ℕ) (unit : Option Onu)
     → Goes (sends_nothing m) link lives unit t
 goes_nothing m link lives unit t h j = record { held = h; job = j }
 
+-- what is sent at once
+pub goes_sent : (o : Outcome) (s : Sending) (link : Link) (lives : ℕ) (unit : Option Onu) (t : Told)
+    → o.sendings ≡ s ∷ []
+    → Held (link_read (sends s) link).packets unit o.manager.low o.manager.high (tell_all (sends s) t)
+    → JobOk lives unit o.manager.low o.manager.job (tell_all (sends s) t).low
+    (tell_all (sends s) t).asking (tell_all (sends s) t).history
+    → Goes o link lives unit t
+goes_sent o s link lives unit t e h j =
+    let link_is : link_read (flat_map sends o.sendings) link ≡ link_read (sends s) link =
+    ap (λ l. link_read (flat_map sends l) link) e ∙ link_append (sends s) [] link in
+    let told_is : tell_all (flat_map sends o.sendings) t ≡ tell_all (sends s) t =
+    ap (λ l. tell_all (flat_map sends l) t) e ∙ tell_append (sends s) [] t in
+    record {
+      held =
+          subst (λ l. Held l.packets unit o.manager.low o.manager.high (tell_all (flat_map sends o.sendings) t)) (sym link_is)
+          (subst (λ u. Held (link_read (sends s) link).packets unit o.manager.low o.manager.high u) (sym told_is) h);
+      job = subst (λ u. JobOk lives unit o.manager.low o.manager.job u.low u.asking u.history) (sym told_is) j;
+    }
+
 pub goes_low : (asks : Bool) (c : Command) (m : Manager) (link : Link) (lives : ℕ)
     (unit : Option Onu) (t : Told) → Held link.packets unit m.low m.high t
     → m.low.outstanding ≡ None
     → JobOk lives unit (with_command c m.low) m.job t.drawn (cond asks t.drawn t.asking) t.history
     → Goes (command_sent asks Low c m) link lives unit t
-goes_low true c m link lives unit t h free j =
-    record { held = held_low true c link.packets unit m.low m.high t h free; job = j }
-goes_low false c m link lives unit t h free j =
-    record { held = held_low false c link.packets unit m.low m.high t h free; job = j }
+goes_low asks c m link lives unit t h free j = go asks j
+  where
+    ps : List (List ℕ)
+    ps = command_packets (next_tci m.low) c
+
+    after : (b : Bool) → Held (link_read (map (goes_down Low) ps) link).packets unit
+        (with_command c m.low) m.high (tell_all (map (goes_down Low) ps) (drawn_low b t))
+    after b =
+        let before = h.lanes.number in
+        low_packets ps link unit (with_command c m.low) m.high (drawn_low b t)
+        (held_low b c link.packets unit m.low m.high t h free) (omega arith)
+        (packets_low (next_tci m.low) c (low_fits m.low h.lanes.priority before))
+
+    job_after : (b : Bool)
+        → JobOk lives unit (with_command c m.low) m.job t.drawn (cond b t.drawn t.asking) t.history
+        → (u : Told) → u ≡ record (drawn_low b t) { names = u.names }
+        → JobOk lives unit (with_command c m.low) m.job u.low u.asking u.history
+    job_after b k u e =
+        subst (λ v. JobOk lives unit (with_command c m.low) m.job v.low v.asking v.history) (sym e) k
+
+    go : (b : Bool)
+        → JobOk lives unit (with_command c m.low) m.job t.drawn (cond b t.drawn t.asking) t.history
+        → Goes (command_sent b Low c m) link lives unit t
+    go true k =
+        goes_sent (command_sent true Low c m)
+        (record { lane = Low; drawn = true; asks = true; packets = ps }) link lives unit t refl
+        (after true)
+        (job_after true k (tell_all (map (goes_down Low) ps) (drawn_low true t))
+        (sent_names Low ps (drawn_low true t)))
+    go false k =
+        goes_sent (command_sent false Low c m)
+        (record { lane = Low; drawn = true; asks = false; packets = ps }) link lives unit t refl
+        (after false)
+        (job_after false k (tell_all (map (goes_down Low) ps) (drawn_low false t))
+        (sent_names Low ps (drawn_low false t)))
 
 pub goes_high : (c : Command) (m : Manager) (link : Link) (lives : ℕ) (unit : Option Onu) (t : Told)
     → Held link.packets unit m.low m.high t → m.high.outstanding ≡ None
-    → is_plain c.request ≡ true → is_job c.purpose ≡ false
+    → is_plain c.request ≡ true → is_job c.purpose ≡ false → c.earlier ≡ []
     → JobOk lives unit m.low m.job t.low t.asking t.history
     → Goes (command_sent false High c m) link lives unit t
-goes_high c m link lives unit t h free plainly callers j =
-    record { held = held_high c link.packets unit m.low m.high t h free plainly callers; job = j }
+goes_high c m link lives unit t h free plainly callers single j =
+    goes_sent (command_sent false High c m)
+    (record { lane = High; drawn = true; asks = false; packets = ps }) link lives unit t refl
+    (high_packets (next_tci m.high) c link unit m.low (with_command c m.high) (drawn_high t)
+    (held_high c link.packets unit m.low m.high t h free plainly callers single) (omega arith)
+    single plainly apart)
+    (subst (λ v. JobOk lives unit m.low m.job v.low v.asking v.history)
+    (sym (sent_names High ps (drawn_high t))) j)
+  where
+    ps : List (List ℕ)
+    ps = command_packets (next_tci m.high) c
+
+    apart : (w : Waiting) → m.low.outstanding ≡ Some w → t.drawn ≢ t.low
+    apart w e same = let before = (h.lanes.low_out w e).1 in absurd (omega (arith, before, same))
 
 -- one and then another
 pub goes_both : (a : Outcome) (f : Manager → Outcome) (link : Link) (lives : ℕ) (unit : Option Onu)

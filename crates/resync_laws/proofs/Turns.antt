@@ -11,32 +11,32 @@ use Rattle.lane_spec.specs.declared.LaneTick.{LaneTick}
 use Rattle.lane_spec.specs.declared.LaneTick.TheVariants.{Quiet, Repeat, GaveUp}
 use Rattle.lane_spec.specs.declared.TheConstants.{MOST_REPEATS}
 use Rattle.message_spec.specs.declared.Request.TheVariants as request
-use Rattle.lane_spec.specs.Command.{Command, probe_command, check_command, ask, job_command, sync_entity}
+use Rattle.lane_spec.specs.Command.{Command, probe_command, check_command, ask, job_command, sync_entity, command_packets}
 use Rattle.lane_spec.specs.Lane.{Lane, Waiting, with_command, is_changed_by, timeout_of, tick_by, tick_waiting, lane_tick}
 use Rattle.manager_spec.specs.declared.ResyncReason.TheVariants as reason
 use Rattle.manager_spec.specs.declared.Refusal.{Refusal}
 use Rattle.manager_spec.specs.declared.Report.TheVariants as report
-use Rattle.manager_spec.specs.Manager.{Stage, Probing, Asking, Gathering, AskingAlarms, GatheringRows, Manager, Outcome, lane_in, with_lane, with_report, leave_step, sends_nothing, and_then, command_sent}
-use Rattle.manager_spec.specs.Submitting.{unproven, occupied_by, occupied, running, job_running, out_of_step, job_in_the_way, other_change, second_change, first_refusal, probe_refusal, needs_copy, submit_refusal, leaves_copy, leave_if, check_refusal, resync_refusal, resync_begun, audit_refusal, audit_asked}
+use Rattle.manager_spec.specs.Manager.{Stage, Probing, Asking, Gathering, AskingAlarms, GatheringRows, StartingImage, SendingImage, EndingImage, DelayingEnd, Order, Manager, Outcome, lane_in, with_lane, with_report, leave_step, sends_nothing, and_then, command_sent}
+use Rattle.manager_spec.specs.Submitting.{unproven, occupied_by, occupied, running, job_running, out_of_step, job_in_the_way, other_change, second_change, first_refusal, probe_refusal, needs_copy, submit_refusal, leaves_copy, leave_if, check_refusal, resync_refusal, resync_begun, audit_refusal, audit_asked, image_refusal, image_asked}
 use Rattle.manager_spec.specs.declared.AuditReason.TheVariants as audit
 use Rattle.manager_spec.specs.declared.Job.{Job}
 use Rattle.manager_spec.specs.declared.Job.TheVariants as jobs
 use Rattle.manager_spec.specs.Resync.{with_job}
-use Rattle.manager_spec.specs.Jobs.{job_of, lost_by, job_lost, waits_for}
+use Rattle.manager_spec.specs.declared.ImageReason.TheVariants as image_reason
+use Rattle.manager_spec.specs.Upgrade.{start_command, image_failed}
+use Rattle.manager_spec.specs.Jobs.{job_of, lost_by, job_lost, waits_for, resumed_by, job_resumes}
 use Rattle.manager_spec.specs.Steps.{loss_seen, lane_ticked, tick_lane, after_tick}
-use Rattle.unit_spec.specs.Onu.{Onu, Snapshot, unless_over, second_older, alarms_second_older, onu_ticked}
+use Rattle.unit_spec.specs.Onu.{Onu}
 use Rattle.alarm_spec.specs.Alarms.{Alarm}
-use Rattle.history_spec.specs.History.{Entry, LastSnapshot}
-use Rattle.upload_spec.specs.Pieces.{without_makers}
+use Rattle.history_spec.specs.History.{Entry}
 use Rattle.world_spec.specs.Happenings.{ReplyTaken, NoticeTaken}
 use Rattle.world_spec.specs.History.{Told, tell_all}
-use Rattle.resync_laws.specs.Databases.{IsWholeDatabase}
 use Rattle.resync_laws.proofs.Reading.{is_plain}
-use Rattle.resync_laws.proofs.Invariants.{Gathers, AtStage, JobOk, Held, Good}
-use Rattle.resync_laws.proofs.Sending.{low_later, high_later, low_again, high_again, low_ended, high_ended}
-use Rattle.resync_laws.proofs.Telling.{NoneSynced, none_more, Did, Goes, did_quiet, goes_nothing, goes_low, goes_high, goes_both}
-use Rattle.resync_laws.proofs.Going.{job_at, job_none}
-use Rattle.resync_laws.proofs.Taking.{Mild, mild_same, mild_leave, Fails, fails, fails_audit}
+use Rattle.resync_laws.proofs.Invariants.{AtStage, JobOk, Held}
+use Rattle.resync_laws.proofs.Sending.{sent_names, low_later, high_later, low_again, high_again, low_ended, high_ended}
+use Rattle.resync_laws.proofs.Telling.{NoneSynced, none_more, Did, Goes, did_quiet, goes_nothing, goes_sent, goes_low, goes_high, goes_both}
+use Rattle.resync_laws.proofs.Going.{Ready, job_at, job_none, goes_on, IsSilent, silent}
+use Rattle.resync_laws.proofs.Taking.{Mild, mild_same, mild_leave, Fails, fails, fails_audit, fails_image}
 
 -- ---- refusals
 
@@ -51,6 +51,14 @@ three_none None None None e = (refl, refl, refl)
 three_none None None (Some c) e = absurd (cc)
 three_none None (Some b) c e = absurd (cc)
 three_none (Some a) b c e = absurd (cc)
+
+-- the second
+pub four_none : (a b c d : Option Refusal) → first_refusal (a ∷ b ∷ c ∷ d ∷ []) ≡ None → b ≡ None
+four_none None None None None e = refl
+four_none None None None (Some d) e = absurd (cc)
+four_none None None (Some c) d e = absurd (cc)
+four_none None (Some b) c d e = absurd (cc)
+four_none (Some a) b c d e = absurd (cc)
 
 -- the second and the fourth
 pub five_none : (a b c d e : Option Refusal) → first_refusal (a ∷ b ∷ c ∷ d ∷ e ∷ []) ≡ None
@@ -78,7 +86,7 @@ module _ (m : Manager) (link : Link) (lives : ℕ) (unit : Option Onu) (t : Told
   probe_by : (lane : Priority) → (lane_in lane m).outstanding ≡ None → m.job ≡ None
       → Goes (command_sent false lane probe_command m) link lives unit t
   probe_by Low free none = goes_low false probe_command m link lives unit t h free (job_none lives unit _ m.job _ _ _ none)
-  probe_by High free none = goes_high probe_command m link lives unit t h free refl refl j
+  probe_by High free none = goes_high probe_command m link lives unit t h free refl refl refl j
 
   sent_quiet : (lane : Priority) (c : Command) → Goes (command_sent false lane c m) link lives unit t
       → Did (command_sent false lane c m) link lives unit t
@@ -103,7 +111,7 @@ module _ (m : Manager) (link : Link) (lives : ℕ) (unit : Option Onu) (t : Told
       let probing : Option Stage = Some (Probing true true) in
       did_quiet (resync_begun m) link lives unit t t refl none_told
       (goes_both (command_sent false High probe_command begun) (command_sent false Low probe_command) link lives unit t
-      (goes_high probe_command begun link lives unit t h (not_occupied m.high.outstanding k.0) refl refl (job_at lives unit m.low probing t.low t.asking t.history (Probing true true) refl tt))
+      (goes_high probe_command begun link lives unit t h (not_occupied m.high.outstanding k.0) refl refl refl (job_at lives unit m.low probing t.low t.asking t.history (Probing true true) refl tt))
       (λ l u g. goes_low false probe_command (command_sent false High probe_command begun).manager l lives unit u g.held (not_occupied m.low.outstanding k.1) (job_at lives unit _ probing u.drawn u.asking u.history (Probing true true) refl tt)))
 
   pub audit_good : audit_refusal m ≡ None → Did (audit_asked m) link lives unit t
@@ -113,6 +121,16 @@ module _ (m : Manager) (link : Link) (lives : ℕ) (unit : Option Onu) (t : Told
       did_quiet (audit_asked m) link lives unit t t refl none_told
       (goes_low true c (with_job (Some AskingAlarms) m) link lives unit t h (not_occupied m.low.outstanding k.1)
       (job_at lives unit (with_command c m.low) (Some AskingAlarms) t.drawn t.drawn t.history AskingAlarms refl tt))
+
+  pub image_good : (order : Order) (asked : ℕ) (image : List ℕ) → image_refusal m ≡ None
+      → Did (image_asked order asked image m) link lives unit t
+  image_good order asked image e =
+      let k = four_none (unproven Low m) (occupied Low m) (job_running m) (other_change Low m) e in
+      let c = start_command order asked image in
+      let s : Stage = StartingImage order asked image in
+      did_quiet (image_asked order asked image m) link lives unit t t refl none_told
+      (goes_low false c (with_job (Some s) m) link lives unit t h (not_occupied m.low.outstanding k)
+      (job_at lives unit (with_command c m.low) (Some s) t.drawn t.asking t.history s refl tt))
 
   -- ---- a request for an entity
 
@@ -138,7 +156,7 @@ module _ (m : Manager) (link : Link) (lives : ℕ) (unit : Option Onu) (t : Told
         (goes_low false (ask entity r) b link lives unit t mild_held (ap (λ (l : Lane). l.outstanding) k.low ∙ free) (job_none lives unit _ b.job _ _ _ (k.job ∙ not_running m.job way)))
     submit_by High entity r plainly free way =
         did_quiet (command_sent false High (ask entity r) b) link lives unit t t refl (k.reports none_told)
-        (goes_high (ask entity r) b link lives unit t mild_held (ap (λ (l : Lane). l.outstanding) k.high ∙ free) plainly refl mild_job)
+        (goes_high (ask entity r) b link lives unit t mild_held (ap (λ (l : Lane). l.outstanding) k.high ∙ free) plainly refl refl mild_job)
 
   pub submit_good : (lane : Priority) (entity : EntityId) (r : Request) → is_plain r ≡ true → submit_refusal lane r m ≡ None
       → Did (command_sent false lane (ask entity r) (leave_if (leaves_copy r) m)) link lives unit t
@@ -154,6 +172,10 @@ stage_later : (lives : ℕ) (unit : Option Onu) (low : Lane) (w v : Waiting) (tl
 stage_later lives unit low w v tlow asking history (Probing high' low') e same h = tt
 stage_later lives unit low w v tlow asking history AskingAlarms e same h = tt
 stage_later lives unit low w v tlow asking history (GatheringRows expected next) e same h = tt
+stage_later lives unit low w v tlow asking history (StartingImage order asked image) e same h = tt
+stage_later lives unit low w v tlow asking history (SendingImage order outgoing resent) e same h = tt
+stage_later lives unit low w v tlow asking history (EndingImage order image busy) e same h = tt
+stage_later lives unit low w v tlow asking history (DelayingEnd order image busy) e same h = tt
 stage_later lives unit low w v tlow asking history Asking e same h = record {
   proved = h.proved;
   waiting = v;
@@ -178,6 +200,16 @@ stage_later lives unit low w v tlow asking history (Gathering expected next copy
 lost_by_fails : (job : Job) (tci : ℕ) (m : Manager) → Fails m (lost_by job tci m)
 lost_by_fails jobs.Resync tci m = fails (reason.GaveUp tci) m
 lost_by_fails jobs.Audit tci m = fails_audit (audit.GaveUp tci) m
+lost_by_fails jobs.Image tci m =
+    let x = image_failed (image_reason.GaveUp tci) m in
+    let f = fails_image (image_reason.GaveUp tci) m in
+    let k = mild_leave x in
+    record {
+      low = k.low ∙ f.low;
+      high = k.high ∙ f.high;
+      job = k.job ∙ f.job;
+      reports = λ n. k.reports (f.reports n);
+    }
 
 pub lost_fails : (job : Option Stage) (tci : ℕ) (m : Manager) → (job ≡ None → m.job ≡ None)
     → Fails m (job_lost job tci m)
@@ -227,6 +259,10 @@ module _ (m : Manager) (link : Link) (lives : ℕ) (unit : Option Onu) (t : Told
   unasked (Some (Probing high' low')) e w low = job_at lives unit low m.job t.low t.asking t.history (Probing high' low') e tt
   unasked (Some AskingAlarms) e w low = absurd (false≢true (sym w))
   unasked (Some (GatheringRows expected next)) e w low = absurd (false≢true (sym w))
+  unasked (Some (StartingImage order asked image)) e w low = absurd (false≢true (sym w))
+  unasked (Some (SendingImage order outgoing resent)) e w low = absurd (false≢true (sym w))
+  unasked (Some (EndingImage order image busy)) e w low = absurd (false≢true (sym w))
+  unasked (Some (DelayingEnd order image busy)) e w low = absurd (false≢true (sym w))
   unasked (Some Asking) e w low = absurd (false≢true (sym w))
   unasked (Some (Gathering expected next copy)) e w low = absurd (false≢true (sym w))
 
@@ -240,10 +276,12 @@ module _ (m : Manager) (link : Link) (lives : ℕ) (unit : Option Onu) (t : Told
   low_by w e true true =
       let v : Waiting = record w { ticks = 0; repeats = w.repeats + 1 } in
       let l : Lane = record m.low { outstanding = Some v } in
-      record {
-        held = low_again v link.packets unit l m.high t (low_later w v link.packets unit m.low m.high t h e refl) refl;
-        job = λ s g. stage_later lives unit m.low w v t.low t.asking t.history s e refl (j s g);
-      }
+      let ps = command_packets w.tci w.command in
+      goes_sent (lane_ticked Repeat Low (Some w) l m)
+      (record { lane = Low; drawn = false; asks = false; packets = ps }) link lives unit t refl
+      (low_again v link unit l m.high t (low_later w v link.packets unit m.low m.high t h e refl) refl)
+      (subst (λ u. JobOk lives unit l m.job u.low u.asking u.history) (sym (sent_names Low ps t))
+      (λ s g. stage_later lives unit m.low w v t.low t.asking t.history s e refl (j s g)))
   low_by w e true false =
       let l : Lane = record m.low { proved = false; outstanding = None } in
       loss_goes (waits_for Low m.job) (is_changed_by (Some w)) w.tci (with_report (report.GaveUp w.tci) (record m { low = l }))
@@ -259,10 +297,11 @@ module _ (m : Manager) (link : Link) (lives : ℕ) (unit : Option Onu) (t : Told
   high_by w e true true =
       let v : Waiting = record w { ticks = 0; repeats = w.repeats + 1 } in
       let l : Lane = record m.high { outstanding = Some v } in
-      record {
-        held = high_again v link.packets unit m.low l t (high_later w v link.packets unit m.low m.high t h e refl) refl;
-        job = j;
-      }
+      let ps = command_packets w.tci w.command in
+      goes_sent (lane_ticked Repeat High (Some w) l m)
+      (record { lane = High; drawn = false; asks = false; packets = ps }) link lives unit t refl
+      (high_again v link unit m.low l t (high_later w v link.packets unit m.low m.high t h e refl) refl)
+      (subst (λ u. JobOk lives unit m.low m.job u.low u.asking u.history) (sym (sent_names High ps t)) j)
   high_by w e true false =
       let l : Lane = record m.high { proved = false; outstanding = None } in
       loss_goes (waits_for High m.job) (is_changed_by (Some w)) w.tci (with_report (report.GaveUp w.tci) (record m { high = l }))
@@ -298,6 +337,24 @@ lane_noticed lane m = noticed_none (lane_tick (lane_in lane m)).tick lane (lane_
 pub lane_taken : (lane : Priority) (m : Manager) → (tick_lane lane m).taken ≡ []
 lane_taken lane m = taken_none (lane_tick (lane_in lane m)).tick lane (lane_in lane m).outstanding (lane_tick (lane_in lane m)).lane m
 
+-- ---- the job after a second
+
+resume_goes : (job : Option Stage) (m : Manager) (link : Link) (lives : ℕ) (unit : Option Onu)
+    (t : Told) → m.job ≡ job → Held link.packets unit m.low m.high t
+    → JobOk lives unit m.low m.job t.low t.asking t.history
+    → Goes (resumed_by job m) link lives unit t
+resume_goes (Some (DelayingEnd order image busy)) m link lives unit t e h j =
+    let s : Stage = EndingImage order image busy in
+    goes_on (with_job (Some s) m) link lives unit t h
+    (λ x g. subst (Ready lives unit m.low t.low t.asking t.history) (same_Some s x g) tt)
+resume_goes _ m link lives unit t e h j = goes_nothing m link lives unit t h j
+
+pub resume_silent : (job : Option Stage) (m : Manager) → IsSilent m (resumed_by job m)
+resume_silent (Some (DelayingEnd order image busy)) m =
+    let k = silent (with_job (Some (EndingImage order image busy)) m) in
+    record { taken = k.taken; noticed = k.noticed; reports = k.reports; copy = k.copy }
+resume_silent _ m = record { taken = refl; noticed = refl; reports = refl; copy = refl }
+
 pub tick_good : (m : Manager) (link : Link) (lives : ℕ) (unit : Option Onu) (t : Told)
     → Held link.packets unit m.low m.high t
     → JobOk lives unit m.low m.job t.low t.asking t.history → m.reports ≡ []
@@ -305,127 +362,19 @@ pub tick_good : (m : Manager) (link : Link) (lives : ℕ) (unit : Option Onu) (t
 unfolding after_tick
 tick_good m link lives unit t h j quiet =
     let a : Outcome = tick_lane High m in
-    did_quiet (and_then a (tick_lane Low)) link lives unit t t
-    (ap (λ (l : List Priority). tell_all (map ReplyTaken (l ++ (tick_lane Low a.manager).taken) ++ map NoticeTaken (a.noticed ++ (tick_lane Low a.manager).noticed)) t) (lane_taken High m)
-    ∙ ap (λ (l : List Priority). tell_all (map ReplyTaken l ++ map NoticeTaken (a.noticed ++ (tick_lane Low a.manager).noticed)) t) (lane_taken Low a.manager)
-    ∙ ap (λ (l : List Alarm). tell_all (map NoticeTaken (l ++ (tick_lane Low a.manager).noticed)) t) (lane_noticed High m)
-    ∙ ap (λ (l : List Alarm). tell_all (map NoticeTaken l) t) (lane_noticed Low a.manager))
-    (lane_quiet Low a.manager (lane_quiet High m (subst NoneSynced (sym quiet) tt)))
+    let b : Outcome = and_then a (tick_lane Low) in
+    let q = resume_silent b.manager.job b.manager in
+    let r : Outcome = job_resumes b.manager in
+    did_quiet (and_then b job_resumes) link lives unit t t
+    (ap (λ (l : List Priority). tell_all (map ReplyTaken ((l ++ (tick_lane Low a.manager).taken) ++ r.taken) ++ map NoticeTaken (b.noticed ++ r.noticed)) t) (lane_taken High m)
+    ∙ ap (λ (l : List Priority). tell_all (map ReplyTaken (l ++ r.taken) ++ map NoticeTaken (b.noticed ++ r.noticed)) t) (lane_taken Low a.manager)
+    ∙ ap (λ (l : List Priority). tell_all (map ReplyTaken l ++ map NoticeTaken (b.noticed ++ r.noticed)) t) q.taken
+    ∙ ap (λ (l : List Alarm). tell_all (map NoticeTaken ((l ++ (tick_lane Low a.manager).noticed) ++ r.noticed)) t) (lane_noticed High m)
+    ∙ ap (λ (l : List Alarm). tell_all (map NoticeTaken (l ++ r.noticed)) t) (lane_noticed Low a.manager)
+    ∙ ap (λ (l : List Alarm). tell_all (map NoticeTaken l) t) q.noticed)
+    (subst NoneSynced (sym q.reports)
+    (lane_quiet Low a.manager (lane_quiet High m (subst NoneSynced (sym quiet) tt))))
+    (goes_both b job_resumes link lives unit t
     (goes_both a (tick_lane Low) link lives unit t (lane_goes m link lives unit t h j High)
     (λ l u g. lane_goes a.manager l lives unit u g.held g.job Low))
-
--- ---- a second at the unit
-
--- what was put by is what was put by before, or nothing
-pub record IsOlder (before after : Option Onu) : Type 0 where
-  pub from : (v : Onu) (s : Snapshot) → after ≡ Some v → v.snapshot ≡ Some s
-      → (u : Onu) × (x : Snapshot) × (before ≡ Some u) × (u.snapshot ≡ Some x) × (x.database ≡ s.database)
-
-older_by : (b : Bool) (x s : Snapshot) → unless_over b x ≡ Some s → x.database ≡ s.database
-older_by true x s e = absurd (cc)
-older_by false x s e = ap (λ (y : Snapshot). y.database) (same_Some (record x { age = x.age + 1 }) s e)
-
-older_from : (o : Option Snapshot) (s : Snapshot) → second_older o ≡ Some s
-    → (x : Snapshot) × (o ≡ Some x) × (x.database ≡ s.database)
-older_from None s e = absurd (cc)
-older_from (Some x) s e = (x, refl, older_by _ x s e)
-
-pub ticked_older : (u : Onu) → IsOlder (Some u) (Some (onu_ticked u))
-unfolding onu_ticked
-ticked_older u = record {
-  from = λ v s on has.
-      let k = older_from u.snapshot s (ap (λ (y : Onu). y.snapshot) (same_Some (record u { snapshot = second_older u.snapshot; alarm_snapshot = alarms_second_older u.alarm_snapshot }) v on) ∙ has) in
-      (u, k.0, refl, k.1, k.2);
-}
-
-pub nothing_older : (unit after : Option Onu) → ((v : Onu) (s : Snapshot) → after ≡ Some v → v.snapshot ≡ Some s → ⊥) → IsOlder unit after
-nothing_older unit after none = record { from = λ v s on has. absurd (none v s on has) }
-
-pub stage_older : (lives : ℕ) (before after : Option Onu) (low : Lane) (tlow asking : ℕ) (history : List Entry) (s : Stage)
-    → IsOlder before after → AtStage lives before low tlow asking history s → AtStage lives after low tlow asking history s
-stage_older lives before after low tlow asking history (Probing high' low') o h = tt
-stage_older lives before after low tlow asking history AskingAlarms o h = tt
-stage_older lives before after low tlow asking history (GatheringRows expected next) o h = tt
-stage_older lives before after low tlow asking history Asking o h = record {
-  proved = h.proved;
-  waiting = h.waiting;
-  waits = h.waits;
-  command = h.command;
-  own = h.own;
-  reply = h.reply;
-  fresh = λ v s on was has.
-      let k = o.from v s on has in
-      subst (λ d. LastSnapshot tlow (without_makers d) history) k.4 (h.fresh k.0 k.1 k.2 was k.3);
-}
-stage_older lives before after low tlow asking history (Gathering expected next copy) o h =
-    let g : Gathers after asking history expected next copy = record {
-      database = h.0.database;
-      whole = h.0.whole;
-      few = h.0.few;
-      last = h.0.last;
-      count = h.0.count;
-      less = h.0.less;
-      front = h.0.front;
-      put_by = λ v s on has.
-          let k = o.from v s on has in
-          ap without_makers (sym k.4) ∙ h.0.put_by k.0 k.1 k.2 k.3;
-    } in (
-      g,
-      record {
-        proved = h.1.proved;
-        waiting = h.1.waiting;
-        waits = h.1.waits;
-        command = h.1.command;
-        reply = h.1.reply;
-      },
-    )
-
--- in another life of the unit, which has put nothing by
-pub stage_anew : (lives lives' : ℕ) (before after : Option Onu) (low : Lane) (tlow asking : ℕ) (history : List Entry) (s : Stage)
-    → ((v : Onu) (x : Snapshot) → after ≡ Some v → v.snapshot ≡ Some x → ⊥) → AtStage lives before low tlow asking history s → AtStage lives' after low tlow asking history s
-stage_anew lives lives' before after low tlow asking history (Probing high' low') none h = tt
-stage_anew lives lives' before after low tlow asking history AskingAlarms none h = tt
-stage_anew lives lives' before after low tlow asking history (GatheringRows expected next) none h = tt
-stage_anew lives lives' before after low tlow asking history Asking none h = record {
-  proved = h.proved;
-  waiting = h.waiting;
-  waits = h.waits;
-  command = h.command;
-  own = h.own;
-  reply = h.reply;
-  fresh = λ v s on was has. absurd (none v s on has);
-}
-stage_anew lives lives' before after low tlow asking history (Gathering expected next copy) none h =
-    let g : Gathers after asking history expected next copy = record {
-      database = h.0.database;
-      whole = h.0.whole;
-      few = h.0.few;
-      last = h.0.last;
-      count = h.0.count;
-      less = h.0.less;
-      front = h.0.front;
-      put_by = λ v s on has. absurd (none v s on has);
-    } in (
-      g,
-      record {
-        proved = h.1.proved;
-        waiting = h.1.waiting;
-        waits = h.1.waits;
-        command = h.1.command;
-        reply = h.1.reply;
-      },
-    )
-
-pub good_older : (packets : List Sent) (lives : ℕ) (before after : Option Onu) (manager : Option Manager) (t : Told)
-    → IsOlder before after → ((v : Onu) → after ≡ Some v → IsWholeDatabase v.database)
-    → Good packets lives before manager t → Good packets lives after manager t
-good_older packets lives before after manager t o whole h = record {
-  sent = h.sent;
-  apart = h.apart;
-  lanes = h.lanes;
-  job = λ m e s g. stage_older lives before after m.low t.low t.asking t.history s o (h.job m e s g);
-  reports = h.reports;
-  carried = h.carried;
-  whole = whole;
-  right = h.right;
-}
+    (λ l u g. resume_goes b.manager.job b.manager l lives unit u refl g.held g.job))

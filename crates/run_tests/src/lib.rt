@@ -8,6 +8,8 @@ mod failing;
 #[cfg(test)]
 mod harness;
 #[cfg(test)]
+mod images;
+#[cfg(test)]
 mod resync;
 #[cfg(test)]
 mod runs;

@@ -1,11 +1,12 @@
 -- The canonical text of a script is one of its texts.
 use Rattle.std.proofs.Common.{◌≡◌, ◌≢◌, ℕ, zero, suc, ◌/◌, ◌%◌, ◌^◌, ◌<◌, ◌≤◌, ◌==◌, ◌&&◌}
 use Rattle.std.proofs.Common.{not, nat_le, Bool, true, false, List, [], ◌∷◌, ◌++◌}
-use Rattle.std.proofs.Common.{Ok, refl, sym, ap, ◌∙◌, subst, arith, append_assoc}
+use Rattle.std.proofs.Common.{Option, Some, None, Ok, refl, sym, ap, ◌∙◌, subst, arith}
+use Rattle.std.proofs.Common.{append_assoc}
 use Rattle.std.specs.Prelude.{codes, slice_index}
 use Rattle.std.specs.List.{All, AllPass, list_all, flat_map, join_with_byte}
 use Rattle.std.specs.Char.{is_ascii_digit}
-use Rattle.std.specs.Int.{to_be_bytes, w16}
+use Rattle.std.specs.Int.{to_be_bytes, w16, w32, bytes_high_first, byte_at as number_byte}
 use Rattle.std.specs.Fmt.{decimal}
 use Rattle.std.proofs.lemmas.Bool.{and_parts, and_from, leb-true, le-leb, false≢true, eq-eqb}
 use Rattle.std.proofs.lemmas.List.Elements.{All-nil, All-cons, All-head, All-tail, All-append}
@@ -18,21 +19,24 @@ use Rattle.hex.specs.Hex.{encode_lower, decode_of, is_hex_digit}
 use Rattle.hex.proofs.HexLemmas.{decode_of-encode_lower, decode_of-ok}
 use Rattle.omci_types.specs.declared.Priority.{Priority}
 use Rattle.omci_types.specs.declared.Priority.TheVariants.{Low, High}
+use Rattle.slot_spec.specs.declared.Pick.{Pick}
+use Rattle.slot_spec.specs.declared.Pick.TheVariants.{Old, New, Byte}
 use Rattle.script_spec.specs.declared.Document.TheVariants as documents
 use Rattle.script_spec.specs.declared.Line.{Line}
 use Rattle.script_spec.specs.declared.Line.TheVariants.{Probe as probe}
 use Rattle.script_spec.specs.declared.TheConstants.{LAST_PACKET, MAX_MASK}
-use Rattle.script_spec.specs.Fields.{Value, Lane, Number, Bytes, Form, LaneName, Decimal}
-use Rattle.script_spec.specs.Fields.{MaskDigits, HexBytes, NoiseBytes, Fits, AllFit, IsBytes}
+use Rattle.script_spec.specs.Fields.{Value, Lane, Number, Bytes, Check, PickOf, Form, LaneName}
+use Rattle.script_spec.specs.Fields.{Decimal, MaskDigits, CheckDigits, PickName, HexBytes}
+use Rattle.script_spec.specs.Fields.{NoiseBytes, Fits, FitsPick, AllFit, IsBytes}
 use Rattle.script_spec.specs.Script.{Action, Row, row, said, first_value, later_values, Header}
 use Rattle.script_spec.specs.Script.{header_row, header_values, Script, IsAction, IsHeader}
 use Rattle.script_spec.specs.Script.{IsScript}
-use Rattle.script_spec.specs.Text.{lane_text, value_from, decimal_value}
-use Rattle.script_spec.specs.Grammar.{SpellsNumber, SpellsMask, SpellsBytes, IsTextOf}
-use Rattle.script_spec.specs.Grammar.{SpellEach, BeginsWithLine, feed, WritesActions, no_line}
-use Rattle.script_spec.specs.Grammar.{action_line, first_line, Writes}
-use Rattle.script_spec.specs.Canonical.{hex_text, word_text, words_text, line_text, action_text}
-use Rattle.script_spec.specs.Canonical.{canonical}
+use Rattle.script_spec.specs.Text.{lane_text, old_text, new_text, value_from, decimal_value}
+use Rattle.script_spec.specs.Grammar.{SpellsNumber, SpellsMask, SpellsCheck, SpellsPick}
+use Rattle.script_spec.specs.Grammar.{SpellsBytes, IsTextOf, SpellEach, BeginsWithLine, feed}
+use Rattle.script_spec.specs.Grammar.{WritesActions, no_line, action_line, first_line, Writes}
+use Rattle.script_spec.specs.Canonical.{hex_text, check_text, pick_text, word_text, words_text}
+use Rattle.script_spec.specs.Canonical.{line_text, action_text, canonical}
 use Rattle.script_laws.proofs.Lines.{NoReturn}
 use Rattle.script_laws.proofs.Table.{is_name, row_named}
 
@@ -94,6 +98,29 @@ mask_text n most =
       omega arith,
     )
 
+byte_fits : (place n : ℕ) → number_byte place n < 256
+byte_fits zero n = omega arith
+byte_fits (suc place) n = omega arith
+
+number_bytes : (count n : ℕ) → IsBytes (bytes_high_first count n)
+number_bytes zero n = All-nil (λ b. b < 256)
+number_bytes (suc count) n =
+    All-cons (λ b. b < 256) (number_byte count n) (bytes_high_first count n) (byte_fits count n)
+    (number_bytes count n)
+
+check_spelled : (check : Option ℕ) → SpellsCheck check (check_text check)
+check_spelled None = refl
+check_spelled (Some check) =
+    let bytes = to_be_bytes w32 check in
+    decode_of-encode_lower bytes (byte_at bytes (number_bytes 4 check))
+
+pick_spelled : (pick : Pick) → FitsPick pick → SpellsPick pick (pick_text pick)
+pick_spelled Old fits = refl
+pick_spelled New fits = refl
+pick_spelled (Byte b) fits =
+    decode_of-encode_lower (b ∷ [])
+    (byte_at (b ∷ []) (All-cons (λ x. x < 256) b [] fits (All-nil (λ x. x < 256))))
+
 -- ---- words
 
 -- a number of the form has at most so many digits as a word may have
@@ -108,6 +135,8 @@ text_of (Decimal low high) (Number n) short fits =
     let most : high ≤ LAST_PACKET = leb-true high LAST_PACKET short in
     number_text n (omega (arith, fits.1))
 text_of MaskDigits (Number n) short fits = mask_text n fits
+text_of CheckDigits (Check check) short fits = check_spelled check
+text_of PickName (PickOf pick) short fits = pick_spelled pick fits
 text_of (HexBytes fewest most) (Bytes bytes) short fits = bytes_text bytes fits.1.bytes
 text_of (NoiseBytes most) (Bytes bytes) short fits = bytes_text bytes fits.1.bytes
 text_of form value short fits = absurd fits
@@ -149,15 +178,35 @@ record IsOutside (x : ℕ) : Type 0 where
   pub dash : lacks x (codes "-") ≡ true
   pub low : lacks x (codes "low") ≡ true
   pub high : lacks x (codes "high") ≡ true
+  pub old : lacks x old_text ≡ true
+  pub new : lacks x new_text ≡ true
   pub space : lacks x (codes " ") ≡ true
 
 feed_outside : IsOutside 10
 feed_outside =
-    record { digit = refl; hex = refl; dash = refl; low = refl; high = refl; space = refl }
+    record {
+      digit = refl;
+      hex = refl;
+      dash = refl;
+      low = refl;
+      high = refl;
+      old = refl;
+      new = refl;
+      space = refl;
+    }
 
 return_outside : IsOutside 13
 return_outside =
-    record { digit = refl; hex = refl; dash = refl; low = refl; high = refl; space = refl }
+    record {
+      digit = refl;
+      hex = refl;
+      dash = refl;
+      low = refl;
+      high = refl;
+      old = refl;
+      new = refl;
+      space = refl;
+    }
 
 module _ (x : ℕ) (out : IsOutside x) where
   lane_lacks : (lane : Priority) → Lacks x (lane_text lane)
@@ -179,11 +228,22 @@ module _ (x : ℕ) (out : IsOutside x) where
   bytes_lack [] word s = subst (λ w. Lacks x w) (sym s) (lacks_by_test x (codes "-") out.dash)
   bytes_lack (b ∷ bytes) word s = hex_lacks word (b ∷ bytes) s
 
+  check_lacks : (check : Option ℕ) (word : List ℕ) → SpellsCheck check word → Lacks x word
+  check_lacks None word s = subst (λ w. Lacks x w) (sym s) (lacks_by_test x (codes "-") out.dash)
+  check_lacks (Some check) word s = hex_lacks word (to_be_bytes w32 check) s
+
+  pick_lacks : (pick : Pick) (word : List ℕ) → SpellsPick pick word → Lacks x word
+  pick_lacks Old word s = subst (λ w. Lacks x w) (sym s) (lacks_by_test x old_text out.old)
+  pick_lacks New word s = subst (λ w. Lacks x w) (sym s) (lacks_by_test x new_text out.new)
+  pick_lacks (Byte b) word s = hex_lacks word (b ∷ []) s
+
   word_lacks : (form : Form) (value : Value) (word : List ℕ) → IsTextOf form value word
       → Lacks x word
   word_lacks LaneName (Lane lane) word s = subst (λ w. Lacks x w) (sym s) (lane_lacks lane)
   word_lacks (Decimal low high) (Number n) word s = digits_lack word s.digits
   word_lacks MaskDigits (Number mask) word s = hex_lacks word (s.0 ∷ s.1 ∷ []) s.2
+  word_lacks CheckDigits (Check check) word s = check_lacks check word s
+  word_lacks PickName (PickOf pick) word s = pick_lacks pick word s
   word_lacks (HexBytes fewest most) (Bytes bytes) word s = bytes_lack bytes word s
   word_lacks (NoiseBytes most) (Bytes bytes) word s = bytes_lack bytes word s
   word_lacks form value word s = absurd s

@@ -12,8 +12,9 @@ use Rattle.script_spec.specs.Grammar.{Spells, SpellEach}
 use Rattle.script_spec.specs.Fault.{first_of, words_fault, counted_fault}
 use Rattle.script_spec.specs.Reading.{◌>>=◌, word_value, field_at, values_at, counted}
 use Rattle.script_laws.proofs.Words.{IsOneWord}
-use Rattle.script_laws.proofs.Forms.{bind_ok, ok_same, word_spells, word_spelled, formed}
-use Rattle.script_laws.proofs.Forms.{formed_same, word_plain, word_fault-value}
+use Rattle.script_laws.proofs.Steps.{bind_ok, ok_same}
+use Rattle.script_laws.proofs.Forms.{word_spells, word_spelled, formed, formed_same, word_plain}
+use Rattle.script_laws.proofs.Forms.{word_fault-value}
 use Rattle.script_spec.specs.Fault.{word_fault}
 
 -- ---- from reading to the grammar

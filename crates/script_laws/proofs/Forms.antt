@@ -1,59 +1,47 @@
 -- What a word says in a field of each form, what the grammar says of the word, and which words have
 -- a fault there.
-use Rattle.std.proofs.Common.{◌≡◌, ◌≢◌, ℕ, ◌+◌, ◌*◌, ◌/◌, ◌%◌, ◌<◌, ◌≤◌, ◌==◌, ◌&&◌, ◌||◌, not}
+use Rattle.std.proofs.Common.{◌≡◌, ◌≢◌, ℕ, ◌*◌, ◌/◌, ◌%◌, ◌<◌, ◌≤◌, ◌==◌, ◌&&◌, ◌||◌, not}
 use Rattle.std.proofs.Common.{nat_le, Bool, true, false, cond, List, [], ◌∷◌, length, Option, Some}
 use Rattle.std.proofs.Common.{None, Result, Ok, Err, refl, sym, ap, ◌∙◌, subst, arith}
-use Rattle.std.specs.Prelude.{codes, slice_index, is_some, unwrap_or}
+use Rattle.std.specs.Prelude.{codes, is_some, unwrap_or}
 use Rattle.std.specs.List.{AllPass, list_all}
 use Rattle.std.specs.Char.{is_ascii_digit}
+use Rattle.std.specs.Int.{to_be_bytes, w32}
 use Rattle.std.specs.Str.{bytes_eq}
 use Rattle.std.specs.Result.{result_err}
 use Rattle.std.proofs.lemmas.Bool.{and_parts, and_from, leb-true, le-leb, eqb-true, eq-eqb}
 use Rattle.std.proofs.lemmas.Bool.{eqb-false, ne_eqb, false_from_ne_true, false≢true}
 use Rattle.std.proofs.lemmas.Slice.Eq.{bytes_eq-Decides}
-use Rattle.std.proofs.lemmas.List.Elements.{All-nil, All-cons, All-head, All-tail, All-weaker}
-use Rattle.std.proofs.lemmas.List.Elements.{All-from_get_or}
-use Rattle.hex.specs.Hex.{decode_of, decode_sized, is_hex_digit}
+use Rattle.std.proofs.lemmas.List.Elements.{All-nil, All-cons, All-weaker, All-from_get_or}
+use Rattle.hex.specs.Hex.{decode_of, is_hex_digit}
 use Rattle.hex.specs.declared.error.FromHexError.{FromHexError}
-use Rattle.hex.proofs.HexLemmas.{decode_of-ok, decode_of-digits, decode_sized-ok}
-use Rattle.hex.proofs.HexLemmas.{decode_sized-twice}
+use Rattle.hex.proofs.HexLemmas.{decode_of-ok, decode_of-digits}
 use Rattle.omci_types.specs.declared.Priority.{Priority}
 use Rattle.omci_types.specs.declared.Priority.TheVariants.{Low, High}
+use Rattle.slot_spec.specs.declared.Pick.{Pick}
+use Rattle.slot_spec.specs.declared.Pick.TheVariants.{Old, New, Byte}
 use Rattle.extended_spec.specs.declared.AnyFault.{AnyFault}
 use Rattle.extended_spec.specs.Frames.{any_fault_of}
-use Rattle.script_spec.specs.declared.TheConstants.{MAX_DIGITS, MAX_MASK, WORD_FAULT, NUMBER_FAULT}
+use Rattle.script_spec.specs.declared.TheConstants.{MAX_DIGITS, WORD_FAULT, NUMBER_FAULT}
 use Rattle.script_spec.specs.declared.TheConstants.{HEX_FAULT, NOISE_FAULT}
-use Rattle.script_spec.specs.Fields.{Value, Lane, Number, Bytes, lane_in, number_in, bytes_in, Form}
-use Rattle.script_spec.specs.Fields.{LaneName, Decimal, MaskDigits, HexBytes, NoiseBytes, Fits}
+use Rattle.script_spec.specs.Fields.{Value, Lane, Number, Bytes, Check, PickOf, lane_in, number_in}
+use Rattle.script_spec.specs.Fields.{bytes_in, check_in, pick_in, Form, LaneName, Decimal}
+use Rattle.script_spec.specs.Fields.{MaskDigits, CheckDigits, PickName, HexBytes, NoiseBytes, Fits}
 use Rattle.script_spec.specs.Fields.{AreBytes, IsNoise}
-use Rattle.script_spec.specs.Text.{lane_text, is_numeral, is_number, decimal_value, decoded}
-use Rattle.script_spec.specs.Text.{hex_bytes, mask_value, mask_of}
-use Rattle.script_spec.specs.Grammar.{SpellsNumber, SpellsMask, SpellsBytes, IsTextOf, Spells}
-use Rattle.script_spec.specs.Fault.{is_hex, is_mask, is_noise, unless, first_of, word_fault}
-use Rattle.script_spec.specs.Reading.{◌>>=◌, or_reason, lane_of, number_of, within, bytes_of}
-use Rattle.script_spec.specs.Reading.{noise_with, noise_of, word_value}
+use Rattle.script_spec.specs.Text.{lane_text, old_text, new_text, is_numeral, is_number}
+use Rattle.script_spec.specs.Text.{decimal_value, decoded, hex_bytes, mask_of}
+use Rattle.script_spec.specs.Grammar.{SpellsNumber, SpellsCheck, SpellsPick, SpellsBytes, IsTextOf}
+use Rattle.script_spec.specs.Grammar.{Spells}
+use Rattle.script_spec.specs.Fault.{is_hex, is_mask, is_check, is_pick, is_noise, unless, first_of}
+use Rattle.script_spec.specs.Fault.{word_fault}
+use Rattle.script_spec.specs.Reading.{◌>>=◌, or_reason, lane_of, number_of, check_word, pick_word}
+use Rattle.script_spec.specs.Reading.{within, bytes_of, noise_with, noise_of, word_value}
+use Rattle.script_laws.proofs.Steps.{bind_ok, ok_same, or_reason_ok, chosen_some}
+use Rattle.script_laws.proofs.Steps.{list_all-AllPass, AllPass-list_all}
+use Rattle.script_laws.proofs.Digits.{no_dash, mask_spells, mask_spelled, mask_range, mask_there}
+use Rattle.script_laws.proofs.Digits.{mask_back, check_spells, check_spelled, check_there}
+use Rattle.script_laws.proofs.Digits.{check_back, pick_spells, pick_spelled, pick_there, pick_back}
 use Rattle.script_laws.proofs.Words.{NotSpace, IsOneWord}
-
--- ---- steps
-
-pub bind_ok : {A B E : Type 0} (r : Result A E) (f : A → Result B E) (y : B) → (r >>= f) ≡ Ok y
-    → (x : A) × (r ≡ Ok x) × (f x ≡ Ok y)
-bind_ok (Ok x) f y h = (x, refl, h)
-bind_ok (Err e) f y h = cc
-
-pub ok_same : {A E : Type 0} {x y : A} → ◌≡◌ {A = Result A E} (Ok x) (Ok y) → x ≡ y
-ok_same h = cc
-
-pub or_reason_ok : {A : Type 0} (reason : ℕ) (o : Option A) (v : A) → or_reason reason o ≡ Ok v
-    → o ≡ Some v
-or_reason_ok reason (Some w) v h = ap Some cc
-or_reason_ok reason None v h = cc
-
--- what a test that has passed shows
-pub chosen_some : {A : Type 0} (b : Bool) (x y : A) → cond b (Some x) None ≡ Some y
-    → (b ≡ true) × (x ≡ y)
-chosen_some true x y h = (refl, cc)
-chosen_some false x y h = cc
 
 -- ---- lanes
 
@@ -75,20 +63,6 @@ lane_spelled word Low h = ap lane_of h
 lane_spelled word High h = ap lane_of h
 
 -- ---- numbers
-
-pub list_all-AllPass : {X : Type 0} (p : X → Bool) (xs : List X) → list_all p xs ≡ true
-    → AllPass p xs
-list_all-AllPass p [] h = All-nil _
-list_all-AllPass p (x ∷ xs) h =
-    All-cons (λ y. p y ≡ true) x xs (and_parts (p x) (list_all p xs) h).0
-    (list_all-AllPass p xs (and_parts (p x) (list_all p xs) h).1)
-
-pub AllPass-list_all : {X : Type 0} (p : X → Bool) (xs : List X) → AllPass p xs
-    → list_all p xs ≡ true
-AllPass-list_all p [] h = refl
-AllPass-list_all p (x ∷ xs) h =
-    and_from (p x) (list_all p xs) (All-head (λ y. p y ≡ true) x xs h)
-    (AllPass-list_all p xs (All-tail (λ y. p y ≡ true) x xs h))
 
 pub number_spells : (low high : ℕ) (word : List ℕ) (n : ℕ) → number_of low high word ≡ Some n
     → ((low ≤ n) × (n ≤ high)) × SpellsNumber n word
@@ -128,36 +102,6 @@ number_spelled low high word n s =
     (le-leb (decimal_value word) high (subst (λ m. m ≤ high) (sym s.1.value) s.0.1)) in
     ap (λ b. cond b (Some (decimal_value word)) None) number ∙ ap Some s.1.value
 
--- ---- masks
-
--- two bytes, by the list of them
-two_bytes : (word bytes : List ℕ) (mask : ℕ) → decode_of word ≡ Ok bytes → length bytes ≡ 2
-    → slice_index bytes 0 * 256 + slice_index bytes 1 ≡ mask → SpellsMask mask word
-two_bytes word [] mask h two e = absurd (omega arith)
-two_bytes word (a ∷ []) mask h two e = absurd (omega arith)
-two_bytes word (a ∷ b ∷ []) mask h two e = (a, b, h, sym e)
-two_bytes word (a ∷ b ∷ c ∷ bytes) mask h two e = absurd (omega arith)
-
-mask_from : (word : List ℕ) (mask : ℕ) (r : Result (List ℕ) FromHexError) → decode_sized word 2 ≡ r
-    → mask_value (decoded r) ≡ Some mask → SpellsMask mask word
-mask_from word mask (Ok bytes) e h =
-    let four = decode_sized-ok word 2 bytes e in
-    let read : decode_of word ≡ Ok bytes = sym (decode_sized-twice word 2 four) ∙ e in
-    let size = (decode_of-ok word bytes read).2 in
-    two_bytes word bytes mask read (omega (arith, size, four)) cc
-mask_from word mask (Err error) e h = cc
-
-pub mask_spells : (word : List ℕ) (mask : ℕ) → mask_of word ≡ Some mask → SpellsMask mask word
-unfolding mask_of
-mask_spells word mask h = mask_from word mask (decode_sized word 2) refl h
-
-pub mask_spelled : (word : List ℕ) (mask : ℕ) → SpellsMask mask word → mask_of word ≡ Some mask
-unfolding mask_of
-mask_spelled word mask s =
-    let size = (decode_of-ok word (s.0 ∷ s.1 ∷ []) s.2).2 in
-    ap (λ r. mask_value (decoded r)) (decode_sized-twice word 2 (omega (arith, size)) ∙ s.2)
-    ∙ ap Some (sym s.3)
-
 -- ---- bytes
 
 none_or : {A : Type 0} (b : Bool) (rest : Option A) (x : A) → cond b None rest ≡ Some x
@@ -191,12 +135,6 @@ unfolding hex_bytes
 hex_spells word bytes h =
     let some = none_or (length word == 0) _ bytes h in
     hex_cases word bytes (bytes_eq word (codes "-")) refl some.0 some.1
-
--- a dash is no hex digit
-no_dash : (word bytes : List ℕ) → decode_of word ≡ Ok bytes → bytes_eq word (codes "-") ≡ false
-no_dash word bytes h = false_from_ne_true _ (λ e.
-    let dash = (bytes_eq-Decides word (codes "-")).0 e in
-    absurd (omega (arith, (decode_of-ok word bytes h).2, ap length dash)))
 
 pub hex_spelled : (word bytes : List ℕ) → SpellsBytes bytes word → hex_bytes word ≡ Some bytes
 unfolding hex_bytes
@@ -246,11 +184,6 @@ bytes_range most (b ∷ bytes) word s few = record {
   bytes =
       All-from_get_or (λ b. b < 256) (b ∷ bytes) 0 (λ i lt. (decode_of-ok word (b ∷ bytes) s).3 i);
 }
-
-mask_range : (mask : ℕ) (word : List ℕ) → SpellsMask mask word → mask ≤ MAX_MASK
-mask_range mask word s =
-    let fits = (decode_of-ok word (s.0 ∷ s.1 ∷ []) s.2).3 in
-    omega (arith, fits 0, fits 1, s.3)
 
 -- ---- noise
 
@@ -303,6 +236,17 @@ word_spells MaskDigits word value h =
     let s = mask_spells word mask.0 (or_reason_ok HEX_FAULT (mask_of word) mask.0 mask.1) in
     subst (λ v. Spells MaskDigits v word) (ok_same mask.2)
     (record { fits = mask_range mask.0 word s; text = s })
+word_spells CheckDigits word value h =
+    let check = bind_ok (or_reason HEX_FAULT (check_word word)) _ value h in
+    let is =
+    check_spells word check.0 (or_reason_ok HEX_FAULT (check_word word) check.0 check.1) in
+    subst (λ v. Spells CheckDigits v word) (ok_same check.2)
+    (record { fits = is.fits; text = is.text })
+word_spells PickName word value h =
+    let pick = bind_ok (or_reason HEX_FAULT (pick_word word)) _ value h in
+    let is = pick_spells word pick.0 (or_reason_ok HEX_FAULT (pick_word word) pick.0 pick.1) in
+    subst (λ v. Spells PickName v word) (ok_same pick.2)
+    (record { fits = is.fits; text = is.text })
 word_spells (HexBytes fewest most) word value h =
     let bytes = bind_ok (or_reason HEX_FAULT (bytes_of fewest most word)) _ value h in
     let s =
@@ -326,6 +270,12 @@ word_spelled (Decimal low high) (Number n) word s =
     (number_spelled low high word n (s.fits, s.text))
 word_spelled MaskDigits (Number mask) word s =
     ap (λ o. or_reason HEX_FAULT o >>= λ m. Ok (Number m)) (mask_spelled word mask s.text)
+word_spelled CheckDigits (Check check) word s =
+    ap (λ o. or_reason HEX_FAULT o >>= λ c. Ok (Check c))
+    (check_spelled word check (record { fits = s.fits; text = s.text }))
+word_spelled PickName (PickOf pick) word s =
+    ap (λ o. or_reason HEX_FAULT o >>= λ p. Ok (PickOf p))
+    (pick_spelled word pick (record { fits = s.fits; text = s.text }))
 word_spelled (HexBytes fewest most) (Bytes bytes) word s =
     ap (λ o. or_reason HEX_FAULT o >>= λ b. Ok (Bytes b))
     (bytes_spelled fewest most word bytes (s.text, s.fits.0, s.fits.1.few))
@@ -339,6 +289,8 @@ abbrev pub formed : Form → Value → Value
 formed LaneName value = Lane (lane_in value)
 formed (Decimal low high) value = Number (number_in value)
 formed MaskDigits value = Number (number_in value)
+formed CheckDigits value = Check (check_in value)
+formed PickName value = PickOf (pick_in value)
 formed (HexBytes fewest most) value = Bytes (bytes_in value)
 formed (NoiseBytes most) value = Bytes (bytes_in value)
 
@@ -346,6 +298,8 @@ pub formed_same : (form : Form) (value : Value) → Fits form value → formed f
 formed_same LaneName (Lane lane) h = refl
 formed_same (Decimal low high) (Number n) h = refl
 formed_same MaskDigits (Number n) h = refl
+formed_same CheckDigits (Check check) h = refl
+formed_same PickName (PickOf pick) h = refl
 formed_same (HexBytes fewest most) (Bytes bytes) h = refl
 formed_same (NoiseBytes most) (Bytes bytes) h = refl
 formed_same form value h = absurd h
@@ -377,12 +331,23 @@ plain_lane : (lane : Priority) → IsOneWord (lane_text lane)
 plain_lane Low = plain_by_test (codes "low") refl
 plain_lane High = plain_by_test (codes "high") refl
 
+plain_check : (check : Option ℕ) (word : List ℕ) → SpellsCheck check word → IsOneWord word
+plain_check None word s = subst IsOneWord (sym s) (plain_by_test (codes "-") refl)
+plain_check (Some check) word s = plain_hex word (to_be_bytes w32 check) s
+
+plain_pick : (pick : Pick) (word : List ℕ) → SpellsPick pick word → IsOneWord word
+plain_pick Old word s = subst IsOneWord (sym s) (plain_by_test old_text refl)
+plain_pick New word s = subst IsOneWord (sym s) (plain_by_test new_text refl)
+plain_pick (Byte b) word s = plain_hex word (b ∷ []) s
+
 -- no word of a value has a space
 pub word_plain : (form : Form) (value : Value) (word : List ℕ) → IsTextOf form value word
     → IsOneWord word
 word_plain LaneName (Lane lane) word s = subst IsOneWord (sym s) (plain_lane lane)
 word_plain (Decimal low high) (Number n) word s = plain_digits word s.digits
 word_plain MaskDigits (Number mask) word s = plain_hex word (s.0 ∷ s.1 ∷ []) s.2
+word_plain CheckDigits (Check check) word s = plain_check check word s
+word_plain PickName (PickOf pick) word s = plain_pick pick word s
 word_plain (HexBytes fewest most) (Bytes bytes) word s = plain_bytes bytes word s
 word_plain (NoiseBytes most) (Bytes bytes) word s = plain_bytes bytes word s
 word_plain form value word s = absurd s
@@ -407,32 +372,6 @@ chosen_agree : {A : Type 0} (reason : ℕ) (b : Bool) (x : A)
     → unless b reason ≡ result_err (or_reason reason (cond b (Some x) None))
 chosen_agree reason true x = refl
 chosen_agree reason false x = refl
-
--- four hex digits are a mask
-mask_there : (word : List ℕ) → is_mask word ≡ true → (mask : ℕ) × (mask_of word ≡ Some mask)
-mask_there word h =
-    let parts = and_parts (length word == 4) (list_all is_hex_digit word) h in
-    let four = eqb-true (length word) 4 parts.0 in
-    let read = decode_of-digits word (omega arith) (list_all-AllPass is_hex_digit word parts.1) in
-    let size = (decode_of-ok word read.0 read.1).2 in
-    let bytes = two read.0 (omega (arith, size)) in (
-      bytes.0 * 256 + bytes.1,
-      mask_spelled word (bytes.0 * 256 + bytes.1)
-          (bytes.0, bytes.1, read.1 ∙ ap Ok bytes.2, refl),
-    )
-  where
-    two : (bytes : List ℕ) → length bytes ≡ 2 → (a b : ℕ) × (bytes ≡ a ∷ b ∷ [])
-    two [] e = absurd (omega arith)
-    two (a ∷ []) e = absurd (omega arith)
-    two (a ∷ b ∷ []) e = (a, b, refl)
-    two (a ∷ b ∷ c ∷ bytes) e = absurd (omega arith)
-
-mask_back : (word : List ℕ) (mask : ℕ) → mask_of word ≡ Some mask → is_mask word ≡ true
-mask_back word mask h =
-    let s = mask_spells word mask h in
-    let ok = decode_of-ok word (s.0 ∷ s.1 ∷ []) s.2 in
-    and_from _ _ (eq-eqb (length word) 4 (omega (arith, ok.2)))
-    (AllPass-list_all is_hex_digit word ok.1)
 
 -- hex digits of a number of bytes within the bounds are bytes
 hex_digits_there : (fewest most : ℕ) (word : List ℕ)
@@ -551,6 +490,12 @@ word_fault-value (Decimal low high) word =
 word_fault-value MaskDigits word =
     agree HEX_FAULT (is_mask word) (mask_of word) (mask_there word) (mask_back word)
     ∙ made_err (or_reason HEX_FAULT (mask_of word)) Number
+word_fault-value CheckDigits word =
+    agree HEX_FAULT (is_check word) (check_word word) (check_there word) (check_back word)
+    ∙ made_err (or_reason HEX_FAULT (check_word word)) Check
+word_fault-value PickName word =
+    agree HEX_FAULT (is_pick word) (pick_word word) (pick_there word) (pick_back word)
+    ∙ made_err (or_reason HEX_FAULT (pick_word word)) PickOf
 word_fault-value (HexBytes fewest most) word =
     agree HEX_FAULT (is_hex fewest most word) (bytes_of fewest most word)
     (hex_there fewest most word) (hex_back fewest most word)

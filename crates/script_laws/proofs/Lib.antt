@@ -1,6 +1,8 @@
 pub mod Lines
 pub mod Words
 pub mod Places
+pub mod Steps
+pub mod Digits
 pub mod Forms
 pub mod Fields
 pub mod Table

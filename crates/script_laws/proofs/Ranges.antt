@@ -9,7 +9,7 @@ use Rattle.script_spec.specs.Script.{IsOrdersHeader}
 use Rattle.script_spec.specs.Text.{words_of, is_passed_over}
 use Rattle.script_spec.specs.Reading.{◌>>=◌, line_action, event_at, on_line, as_header, header_at}
 use Rattle.script_spec.specs.Reading.{orders_header_at, events_reading, with_action}
-use Rattle.script_laws.proofs.Forms.{bind_ok}
+use Rattle.script_laws.proofs.Steps.{bind_ok}
 use Rattle.script_laws.proofs.Texts.{text_spells, text_range, text_header, header_range}
 use Rattle.script_laws.proofs.Texts.{text_orders, orders_header_range}
 

@@ -8,9 +8,12 @@ use Rattle.frame_spec.specs.Checksum.{bits_of, number_of, inverted_bit, inverted
 use Rattle.frame_spec.specs.Checksum.{generator, without_first, divide, message_bits, dividend, crc}
 use Rattle.extended_spec.specs.Frames.{length_at, long_given, long_computed, long_fault_of}
 use Rattle.extended_spec.specs.Frames.{is_extended, any_fault_of}
-use Rattle.script_spec.specs.Script.{Probe, Get, Set, Flow, NoiseUnit, NoiseOlt, Tick, CutUnit}
-use Rattle.script_spec.specs.Script.{CutOlt, StartUnit, StartOlt, Resync}
+use Rattle.slot_spec.specs.declared.Pick.TheVariants.{Old, New, Byte}
+use Rattle.script_spec.specs.Script.{Probe, Get, Set, Activate, Commit, Reboot, Resync, Image, Flow}
+use Rattle.script_spec.specs.Script.{CutIn, NoiseUnit, NoiseOlt, Tick, CutUnit, CutOlt, StartUnit}
+use Rattle.script_spec.specs.Script.{StartOlt}
 use Rattle.script_spec.specs.Text.{lines_of, words_of, opening, decimal_value, hex_bytes, mask_of}
+use Rattle.script_spec.specs.Text.{check_of, byte_of}
 use Rattle.script_spec.specs.Fault.{fault, orders_fault, events_fault, line_fault, is_header}
 use Rattle.script_spec.specs.Fault.{is_orders_header}
 use Rattle.script_spec.specs.Reading.{reading, orders_reading, events_reading, event_at}
@@ -61,6 +64,22 @@ unfolding reading opening events_reading event_at line_action line_named field_a
     is_extended fault_of trailer_at given_check computed_check bits_of number_of inverted_bit
     inverted add_to_front generator without_first divide message_bits dividend crc
 reads_noise = refl
+
+-- images, with a check value and without one, and what a cut gives to each byte
+reads_images : reading
+    (header ++ line (codes "image 1 1 - ffff") ++ line (codes "image 0 0256 00ffF1A0 00")
+    ++ line (codes "activate high 1") ++ line (codes "commit low 00") ++ line (codes "reboot high")
+    ++ line (codes "cutin 6 1000 old") ++ line (codes "cutin 0 1 new")
+    ++ line (codes "cutin 7 01 a5")) ≡ Ok (record {
+      header = record { room = 16; low = 1; high = 32767; factory = 0 ∷ 255 ∷ [] };
+      actions =
+          Image 1 1 None (255 ∷ 255 ∷ []) ∷ Image 0 256 (Some 0x00FFF1A0) (0 ∷ [])
+          ∷ Activate High 1 ∷ Commit Low 0 ∷ Reboot High ∷ CutIn 6 1000 Old ∷ CutIn 0 1 New
+          ∷ CutIn 7 1 (Byte 0xA5) ∷ [];
+    })
+unfolding reading opening events_reading event_at line_action line_named field_at action_at
+    header_at lines_of words_of decimal_value hex_bytes check_of byte_of decode_pairs
+reads_images = refl
 
 no_input : fault [] ≡ Some (1, 4)
 unfolding fault opening lines_of
@@ -157,6 +176,61 @@ unfolding fault opening events_fault line_fault line_named is_header lines_of wo
     decimal_value
 half_byte = refl
 
+-- there are two slots
+third_slot : fault (header ++ line (codes "commit low 1") ++ line (codes "activate low 2"))
+    ≡ Some (3, 2)
+unfolding fault opening events_fault line_fault line_named is_header lines_of words_of
+    decimal_value
+third_slot = refl
+
+-- no section in a window, before an image of no byte
+no_section : fault (header ++ line (codes "image 0 0 - -")) ≡ Some (2, 2)
+unfolding fault opening events_fault line_fault line_named is_header lines_of words_of
+    decimal_value
+no_section = refl
+
+long_window : fault (header ++ line (codes "image 0 257 - 00")) ≡ Some (2, 2)
+unfolding fault opening events_fault line_fault line_named is_header lines_of words_of
+    decimal_value
+long_window = refl
+
+short_check : fault (header ++ line (codes "image 0 256 0ffff1a 00")) ≡ Some (2, 3)
+unfolding fault opening events_fault line_fault line_named is_header lines_of words_of
+    decimal_value
+short_check = refl
+
+no_image : fault (header ++ line (codes "image 0 256 00fff1a0 -")) ≡ Some (2, 3)
+unfolding fault opening events_fault line_fault line_named is_header lines_of words_of
+    decimal_value
+no_image = refl
+
+-- device calls are counted from 1, and a line cuts the power at the 1,000th at most
+call_zero : fault (header ++ line (codes "cutin 0 0 old")) ≡ Some (2, 2)
+unfolding fault opening events_fault line_fault line_named is_header lines_of words_of
+    decimal_value
+call_zero = refl
+
+late_call : fault (header ++ line (codes "cutin 0 1001 old")) ≡ Some (2, 2)
+unfolding fault opening events_fault line_fault line_named is_header lines_of words_of
+    decimal_value
+late_call = refl
+
+-- what is no name of a pick has to be one byte
+unknown_pick : fault (header ++ line (codes "cutin 0 1 OLD")) ≡ Some (2, 3)
+unfolding fault opening events_fault line_fault line_named is_header lines_of words_of
+    decimal_value
+unknown_pick = refl
+
+two_bytes_picked : fault (header ++ line (codes "cutin 0 1 a5a5")) ≡ Some (2, 3)
+unfolding fault opening events_fault line_fault line_named is_header lines_of words_of
+    decimal_value
+two_bytes_picked = refl
+
+no_byte_picked : fault (header ++ line (codes "cutin 0 1 -")) ≡ Some (2, 3)
+unfolding fault opening events_fault line_fault line_named is_header lines_of words_of
+    decimal_value
+no_byte_picked = refl
+
 -- zeros in front are gone, hex is in lower case, and each line has its line feed
 prints_lines : canonical (record {
   header = record { room = 16; low = 1; high = 32767; factory = 0 ∷ 255 ∷ [] };
@@ -167,6 +241,18 @@ prints_lines : canonical (record {
     ++ line (codes "noise unit ab") ++ line (codes "tick") ++ line (codes "start olt 7 32767")
 unfolding canonical line_text digits encode_with
 prints_lines = refl
+
+prints_images : canonical (record {
+  header = record { room = 16; low = 1; high = 32767; factory = 0 ∷ 255 ∷ [] };
+  actions =
+      Image 1 256 None (0xAB ∷ []) ∷ Image 0 1 (Some 0xFF) (0 ∷ []) ∷ Activate Low 0
+      ∷ Commit High 1 ∷ Reboot Low ∷ CutIn 12 1000 Old ∷ CutIn 0 1 New ∷ CutIn 0 1 (Byte 10) ∷ [];
+}) ≡ line (codes "omci 1 16 1 32767 00ff") ++ line (codes "image 1 256 - ab")
+    ++ line (codes "image 0 1 000000ff 00") ++ line (codes "activate low 0")
+    ++ line (codes "commit high 1") ++ line (codes "reboot low") ++ line (codes "cutin 12 1000 old")
+    ++ line (codes "cutin 0 1 new") ++ line (codes "cutin 0 1 0a")
+unfolding canonical line_text digits encode_with
+prints_images = refl
 
 -- ---- orders
 
@@ -181,6 +267,18 @@ reads_orders : orders_reading
 unfolding orders_reading opening events_reading event_at line_action line_named field_at action_at
     orders_header_at lines_of words_of decimal_value hex_bytes mask_of decode_pairs
 reads_orders = refl
+
+-- the manager's lines of images are orders
+reads_image_orders : orders_reading
+    (line (codes "orders 1 1 1") ++ line (codes "image 1 4 - 00") ++ line (codes "commit low 1")
+    ++ line (codes "activate low 1") ++ line (codes "reboot high")) ≡ Ok (record {
+      header = record { low = 1; high = 1 };
+      actions =
+          Image 1 4 None (0 ∷ []) ∷ Commit Low 1 ∷ Activate Low 1 ∷ Reboot High ∷ [];
+    })
+unfolding orders_reading opening events_reading event_at line_action line_named field_at action_at
+    orders_header_at lines_of words_of decimal_value hex_bytes check_of decode_pairs
+reads_image_orders = refl
 
 no_orders : orders_fault (line []) ≡ Some (2, 4)
 unfolding orders_fault opening lines_of
@@ -207,6 +305,12 @@ delivery_in_orders : orders_fault (line (codes "orders 1 1 1") ++ line (codes "d
 unfolding orders_fault opening events_fault line_fault line_named is_orders_header lines_of words_of
     decimal_value
 delivery_in_orders = refl
+
+cut_in_orders : orders_fault (line (codes "orders 1 1 1") ++ line (codes "cutin 0 1 old"))
+    ≡ Some (2, 1)
+unfolding orders_fault opening events_fault line_fault line_named is_orders_header lines_of words_of
+    decimal_value
+cut_in_orders = refl
 
 number_in_orders : orders_fault (line (codes "orders 1 1 1") ++ line (codes "delete low 65536 0"))
     ≡ Some (2, 2)

@@ -11,7 +11,7 @@ use Rattle.script_spec.specs.Grammar.{later_line, Writes, WritesOrders}
 use Rattle.script_spec.specs.Reading.{◌>>=◌, line_action, header_at, orders_header_at, event_at}
 use Rattle.script_spec.specs.Reading.{on_line, as_header, events_reading, with_action, read_from}
 use Rattle.script_spec.specs.Reading.{whole_reading, script_of, reading, orders_of, orders_reading}
-use Rattle.script_laws.proofs.Forms.{bind_ok, ok_same}
+use Rattle.script_laws.proofs.Steps.{bind_ok, ok_same}
 use Rattle.script_laws.proofs.Lines.{has_line, lines_of-line, line_from_lines, no_lines}
 use Rattle.script_laws.proofs.Ranges.{on_line_ok, as_header_ok, read_actions_range}
 use Rattle.script_laws.proofs.Ranges.{read_actions_kinds}

@@ -20,7 +20,7 @@ use Rattle.script_spec.specs.Reading.{◌>>=◌, or_reason, field_at, values_at,
 use Rattle.script_spec.specs.Reading.{known_in, line_at, action_at, line_action, header_at}
 use Rattle.script_spec.specs.Reading.{orders_header_at}
 use Rattle.script_laws.proofs.Words.{joined-words_of}
-use Rattle.script_laws.proofs.Forms.{bind_ok, ok_same, or_reason_ok, chosen_some}
+use Rattle.script_laws.proofs.Steps.{bind_ok, ok_same, or_reason_ok, chosen_some}
 use Rattle.script_laws.proofs.Fields.{counted_ok, counted_again, values_spell, values_spelled}
 use Rattle.script_laws.proofs.Fields.{field_again, spell_length, each_fits, each_plain, all_same}
 use Rattle.script_laws.proofs.Table.{said_again, action_again, named_again, named_is, after_name-is}

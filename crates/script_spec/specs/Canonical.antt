@@ -1,25 +1,39 @@
 -- The canonical text of a script: no line that is passed over, numbers without zeros in front, hex
 -- in lower case, `-` for no byte, and a line feed after each line.
-use Rattle.std.specs.Prelude.{ℕ, List, [], ◌∷◌, ◌++◌, codes}
+use Rattle.std.specs.Prelude.{ℕ, List, [], ◌∷◌, ◌++◌, codes, Option, Some, None}
 use Rattle.std.specs.List.{flat_map, join_with_byte}
-use Rattle.std.specs.Int.{to_be_bytes, w16}
+use Rattle.std.specs.Int.{to_be_bytes, w16, w32}
 use Rattle.std.specs.Fmt.{decimal}
 use Rattle.hex.specs.Hex.{encode_lower}
-use Rattle.script_spec.specs.Fields.{Value, lane_in, number_in, bytes_in, Form, LaneName, Decimal}
-use Rattle.script_spec.specs.Fields.{MaskDigits, HexBytes, NoiseBytes}
+use Rattle.slot_spec.specs.declared.Pick.{Pick}
+use Rattle.slot_spec.specs.declared.Pick.TheVariants.{Old, New, Byte}
+use Rattle.script_spec.specs.Fields.{Value, lane_in, number_in, bytes_in, check_in, pick_in, Form}
+use Rattle.script_spec.specs.Fields.{LaneName, Decimal, MaskDigits, CheckDigits, PickName, HexBytes}
+use Rattle.script_spec.specs.Fields.{NoiseBytes}
 use Rattle.script_spec.specs.Script.{Action, Row, row, said, first_value, later_values, Header}
 use Rattle.script_spec.specs.Script.{header_row, header_values, Script}
-use Rattle.script_spec.specs.Text.{lane_text}
+use Rattle.script_spec.specs.Text.{lane_text, old_text, new_text}
 
 abbrev pub hex_text : List ℕ → List ℕ
 hex_text [] = codes "-"
 hex_text (b ∷ bytes) = encode_lower (b ∷ bytes)
+
+abbrev pub check_text : Option ℕ → List ℕ
+check_text None = codes "-"
+check_text (Some check) = encode_lower (to_be_bytes w32 check)
+
+abbrev pub pick_text : Pick → List ℕ
+pick_text Old = old_text
+pick_text New = new_text
+pick_text (Byte b) = encode_lower (b ∷ [])
 
 -- the word of a value in a field of this form
 abbrev pub word_text : Form → Value → List ℕ
 word_text LaneName value = lane_text (lane_in value)
 word_text (Decimal low high) value = decimal (number_in value)
 word_text MaskDigits value = encode_lower (to_be_bytes w16 (number_in value))
+word_text CheckDigits value = check_text (check_in value)
+word_text PickName value = pick_text (pick_in value)
 word_text (HexBytes fewest most) value = hex_text (bytes_in value)
 word_text (NoiseBytes most) value = hex_text (bytes_in value)
 

@@ -13,10 +13,12 @@ use Rattle.script_spec.specs.declared.Document.TheVariants as documents
 use Rattle.script_spec.specs.declared.Line.{Line}
 use Rattle.script_spec.specs.declared.TheConstants.{WORD_FAULT, NUMBER_FAULT, HEX_FAULT}
 use Rattle.script_spec.specs.declared.TheConstants.{HEADER_FAULT, NOISE_FAULT}
-use Rattle.script_spec.specs.Fields.{Form, LaneName, Decimal, MaskDigits, HexBytes, NoiseBytes}
+use Rattle.script_spec.specs.Fields.{Form, LaneName, Decimal, MaskDigits, CheckDigits, PickName}
+use Rattle.script_spec.specs.Fields.{HexBytes, NoiseBytes}
 use Rattle.script_spec.specs.Script.{row, header_name, header_row, orders_row}
 use Rattle.script_spec.specs.Text.{lines_of, words_of, after_name, is_passed_over, opening}
-use Rattle.script_spec.specs.Text.{lane_text, is_number, decimal_value, hex_bytes}
+use Rattle.script_spec.specs.Text.{lane_text, old_text, new_text}
+use Rattle.script_spec.specs.Text.{is_number, decimal_value, hex_bytes}
 use Rattle.script_spec.specs.Reading.{line_named, known_in}
 
 -- ---- words
@@ -31,9 +33,21 @@ is_hex fewest most word =
     else nat_le 1 (length word) && (length word % 2 == 0) && list_all is_hex_digit word
     && nat_le fewest (length word / 2) && nat_le (length word / 2) most
 
+-- so many hex digits in either case
+abbrev pub are_digits : ℕ → List ℕ → Bool
+are_digits count word = (length word == count) && list_all is_hex_digit word
+
 -- four hex digits in either case
 abbrev pub is_mask : List ℕ → Bool
-is_mask word = (length word == 4) && list_all is_hex_digit word
+is_mask word = are_digits 4 word
+
+-- eight hex digits in either case, or `-`
+abbrev pub is_check : List ℕ → Bool
+is_check word = bytes_eq word (codes "-") || are_digits 8 word
+
+-- `old`, `new`, or two hex digits in either case
+abbrev pub is_pick : List ℕ → Bool
+is_pick word = bytes_eq word old_text || bytes_eq word new_text || are_digits 2 word
 
 -- hex of bytes that don't decode as a frame of either message set
 abbrev pub is_noise : List ℕ → Bool
@@ -54,6 +68,8 @@ abbrev pub word_fault : Form → List ℕ → Option ℕ
 word_fault LaneName word = unless (is_lane word) WORD_FAULT
 word_fault (Decimal low high) word = unless (is_number low high word) NUMBER_FAULT
 word_fault MaskDigits word = unless (is_mask word) HEX_FAULT
+word_fault CheckDigits word = unless (is_check word) HEX_FAULT
+word_fault PickName word = unless (is_pick word) HEX_FAULT
 word_fault (HexBytes fewest most) word = unless (is_hex fewest most word) HEX_FAULT
 word_fault (NoiseBytes most) word =
     first_of (unless (is_hex 0 most word) HEX_FAULT) (unless (is_noise word) NOISE_FAULT)

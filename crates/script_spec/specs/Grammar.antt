@@ -1,18 +1,22 @@
 -- The grammar of scripts and of orders: which bytes write which of them.
 use Rattle.std.specs.Prelude.{◌≡◌, ◌≢◌, ℕ, ◌+◌, ◌*◌, ◌≤◌, List, [], ◌∷◌, ◌++◌, length, codes, Ok}
-use Rattle.std.specs.Prelude.{◌⊎◌}
+use Rattle.std.specs.Prelude.{◌⊎◌, Option, Some, None}
+use Rattle.std.specs.Int.{w32, to_be_bytes}
 use Rattle.std.specs.List.{All, AllPass, join_with_byte}
 use Rattle.std.specs.Char.{is_ascii_digit}
 use Rattle.hex.specs.Hex.{decode_of}
+use Rattle.slot_spec.specs.declared.Pick.{Pick}
+use Rattle.slot_spec.specs.declared.Pick.TheVariants.{Old, New, Byte}
 use Rattle.script_spec.specs.declared.Document.{Document}
 use Rattle.script_spec.specs.declared.Document.TheVariants as documents
 use Rattle.script_spec.specs.declared.TheConstants.{MAX_DIGITS}
-use Rattle.script_spec.specs.Fields.{Value, Lane, Number, Bytes, Form, LaneName, Decimal}
-use Rattle.script_spec.specs.Fields.{MaskDigits, HexBytes, NoiseBytes, Fits}
+use Rattle.script_spec.specs.Fields.{Value, Lane, Number, Bytes, Check, PickOf, Form, LaneName}
+use Rattle.script_spec.specs.Fields.{Decimal, MaskDigits, CheckDigits, PickName, HexBytes}
+use Rattle.script_spec.specs.Fields.{NoiseBytes, Fits}
 use Rattle.script_spec.specs.Script.{Action, Row, row, said, HasAction, Header, header_row}
 use Rattle.script_spec.specs.Script.{header_values, Script, OrdersHeader, orders_row, orders_values}
 use Rattle.script_spec.specs.Script.{Orders}
-use Rattle.script_spec.specs.Text.{decimal_value, lane_text}
+use Rattle.script_spec.specs.Text.{decimal_value, lane_text, old_text, new_text}
 
 -- ---- words
 
@@ -28,6 +32,18 @@ abbrev pub SpellsMask : ℕ → List ℕ → Type 0
 SpellsMask mask word =
     (first second : ℕ) × (decode_of word ≡ Ok (first ∷ second ∷ [])) × (mask ≡ first * 256 + second)
 
+-- eight hex digits in either case of the check value's four bytes, the first one highest; `-` where
+-- none is given
+abbrev pub SpellsCheck : Option ℕ → List ℕ → Type 0
+SpellsCheck None word = word ≡ codes "-"
+SpellsCheck (Some check) word = decode_of word ≡ Ok (to_be_bytes w32 check)
+
+-- `old`, `new`, or two hex digits in either case of a byte
+abbrev pub SpellsPick : Pick → List ℕ → Type 0
+SpellsPick Old word = word ≡ old_text
+SpellsPick New word = word ≡ new_text
+SpellsPick (Byte b) word = decode_of word ≡ Ok (b ∷ [])
+
 -- hex digits in either case, two for each byte; `-` where there is no byte
 abbrev pub SpellsBytes : List ℕ → List ℕ → Type 0
 SpellsBytes [] word = word ≡ codes "-"
@@ -38,6 +54,8 @@ abbrev pub IsTextOf : Form → Value → List ℕ → Type 0
 IsTextOf LaneName (Lane lane) word = word ≡ lane_text lane
 IsTextOf (Decimal lowest highest) (Number n) word = SpellsNumber n word
 IsTextOf MaskDigits (Number n) word = SpellsMask n word
+IsTextOf CheckDigits (Check check) word = SpellsCheck check word
+IsTextOf PickName (PickOf pick) word = SpellsPick pick word
 IsTextOf (HexBytes fewest most) (Bytes bytes) word = SpellsBytes bytes word
 IsTextOf (NoiseBytes most) (Bytes bytes) word = SpellsBytes bytes word
 IsTextOf _ _ word = ⊥

@@ -1,10 +1,13 @@
 -- Reading a script or orders from left to right: what they say, or their first fault by line and
 -- reason.
 use Rattle.std.specs.Prelude.{ℕ, ◌+◌, ◌&&◌, ◌==◌, nat_le, if◌then◌else◌, List, [], ◌∷◌, length}
-use Rattle.std.specs.Prelude.{Option, Some, None, Result, Ok, Err}
+use Rattle.std.specs.Prelude.{Option, Some, None, Result, Ok, Err, codes}
+use Rattle.std.specs.Option.{option_map}
 use Rattle.std.specs.Str.{bytes_eq}
 use Rattle.omci_types.specs.declared.Priority.{Priority}
 use Rattle.omci_types.specs.declared.Priority.TheVariants.{Low, High}
+use Rattle.slot_spec.specs.declared.Pick.{Pick}
+use Rattle.slot_spec.specs.declared.Pick.TheVariants.{Old, New, Byte}
 use Rattle.extended_spec.specs.declared.AnyFault.{AnyFault}
 use Rattle.extended_spec.specs.Frames.{any_fault_of}
 use Rattle.script_spec.specs.declared.Document.{Document}
@@ -12,13 +15,15 @@ use Rattle.script_spec.specs.declared.Document.TheVariants as documents
 use Rattle.script_spec.specs.declared.Line.{Line}
 use Rattle.script_spec.specs.declared.TheConstants.{WORD_FAULT, NUMBER_FAULT, HEX_FAULT}
 use Rattle.script_spec.specs.declared.TheConstants.{HEADER_FAULT, NOISE_FAULT}
-use Rattle.script_spec.specs.Fields.{Value, Lane, Number, Bytes, number_in, Form, LaneName, Decimal}
-use Rattle.script_spec.specs.Fields.{MaskDigits, HexBytes, NoiseBytes}
+use Rattle.script_spec.specs.Fields.{Value, Lane, Number, Bytes, Check, PickOf, number_in, Form}
+use Rattle.script_spec.specs.Fields.{LaneName, Decimal, MaskDigits, CheckDigits, PickName, HexBytes}
+use Rattle.script_spec.specs.Fields.{NoiseBytes}
 use Rattle.script_spec.specs.Script.{Action, row, all_lines, has, action_with, Header, header_name}
 use Rattle.script_spec.specs.Script.{header_size, room_field, fields_after_room, header_with}
 use Rattle.script_spec.specs.Script.{Script, OrdersHeader, orders_row, orders_header_with, Orders}
 use Rattle.script_spec.specs.Text.{lines_of, words_of, after_name, is_passed_over, opening}
 use Rattle.script_spec.specs.Text.{lane_text, is_number, decimal_value, hex_bytes, mask_of}
+use Rattle.script_spec.specs.Text.{check_of, byte_of, old_text, new_text}
 
 infixl 10 ◌>>=◌
 abbrev pub ◌>>=◌ : {A B E : Type 0} → Result A E → (A → Result B E) → Result B E
@@ -32,6 +37,22 @@ lane_of word =
     if bytes_eq word (lane_text Low) then Some Low
     else if bytes_eq word (lane_text High) then Some High
     else None
+
+-- a check value that is given
+abbrev pub some_check : Option ℕ → Option (Option ℕ)
+some_check None = None
+some_check (Some check) = Some (Some check)
+
+-- a check value, or none for `-`
+abbrev pub check_word : List ℕ → Option (Option ℕ)
+check_word word = if bytes_eq word (codes "-") then Some None else some_check (check_of word)
+
+-- a pick by its name, or by its byte
+abbrev pub pick_word : List ℕ → Option Pick
+pick_word word =
+    if bytes_eq word old_text then Some Old
+    else if bytes_eq word new_text then Some New
+    else option_map Byte (byte_of word)
 
 abbrev pub number_of : ℕ → ℕ → List ℕ → Option ℕ
 number_of low high word = if is_number low high word then Some (decimal_value word) else None
@@ -65,6 +86,8 @@ word_value LaneName word = or_reason WORD_FAULT (lane_of word) >>= λ lane. Ok (
 word_value (Decimal low high) word =
     or_reason NUMBER_FAULT (number_of low high word) >>= λ n. Ok (Number n)
 word_value MaskDigits word = or_reason HEX_FAULT (mask_of word) >>= λ mask. Ok (Number mask)
+word_value CheckDigits word = or_reason HEX_FAULT (check_word word) >>= λ check. Ok (Check check)
+word_value PickName word = or_reason HEX_FAULT (pick_word word) >>= λ pick. Ok (PickOf pick)
 word_value (HexBytes fewest most) word =
     or_reason HEX_FAULT (bytes_of fewest most word) >>= λ bytes. Ok (Bytes bytes)
 word_value (NoiseBytes most) word = noise_of most word >>= λ bytes. Ok (Bytes bytes)

@@ -1,20 +1,24 @@
 -- What a script says: a header, and what each line after it asks for, by one table of the kinds of
 -- lines. Orders have a header of their own, and only the lines that are a manager's.
 use Rattle.std.specs.Prelude.{◌≡◌, ◌≤◌, ℕ, zero, suc, Bool, true, false, List, [], ◌∷◌, length}
-use Rattle.std.specs.Prelude.{codes}
+use Rattle.std.specs.Prelude.{codes, Option}
 use Rattle.std.specs.List.{All}
 use Rattle.omci_types.specs.declared.Priority.{Priority}
 use Rattle.omci_types.specs.declared.EntityId.{EntityId}
+use Rattle.slot_spec.specs.declared.Pick.{Pick}
 use Rattle.frame_spec.specs.declared.TheConstants.{LAST_NUMBER}
 use Rattle.script_spec.specs.declared.TheConstants.{LAST_PACKET, MAX_ID, MAX_CREATE, MAX_SET}
-use Rattle.script_spec.specs.declared.TheConstants.{MAX_ATTRIBUTE, MAX_SENSED, MAX_BITMAP, MAX_FLOW, MAX_NOISE, MAX_ROOM}
+use Rattle.script_spec.specs.declared.TheConstants.{MAX_ATTRIBUTE, MAX_SENSED, MAX_BITMAP}
+use Rattle.script_spec.specs.declared.TheConstants.{MAX_FLOW, MAX_NOISE, MAX_ROOM, MAX_SLOT}
+use Rattle.script_spec.specs.declared.TheConstants.{MAX_ASKED, MAX_IMAGE, MAX_CALL}
 use Rattle.script_spec.specs.declared.Document.{Document}
 use Rattle.script_spec.specs.declared.Document.TheVariants as documents
 use Rattle.script_spec.specs.declared.Line.{Line}
 use Rattle.script_spec.specs.declared.Line.TheVariants as lines
-use Rattle.script_spec.specs.Fields.{Value, Lane, Number, Bytes, lane_in, number_in, bytes_in, Form}
-use Rattle.script_spec.specs.Fields.{LaneName, Decimal, MaskDigits, HexBytes, NoiseBytes, AreBytes}
-use Rattle.script_spec.specs.Fields.{AllFit}
+use Rattle.script_spec.specs.Fields.{Value, Lane, Number, Bytes, Check as CheckValue, PickOf, Form}
+use Rattle.script_spec.specs.Fields.{lane_in, number_in, bytes_in, check_in, pick_in, LaneName}
+use Rattle.script_spec.specs.Fields.{Decimal, MaskDigits, CheckDigits, PickName, HexBytes}
+use Rattle.script_spec.specs.Fields.{NoiseBytes, AreBytes, AllFit}
 
 -- What one line of a script asks for. Bytes are kept as they were written, not filled.
 pub data Action : Type 0 where
@@ -25,13 +29,22 @@ pub data Action : Type 0 where
   Create : Priority → EntityId → List ℕ → Action
   Set : Priority → EntityId → ℕ → List ℕ → Action
   Delete : Priority → EntityId → Action
+  -- its commands for a software image, named by its slot, and for the whole unit
+  Activate : Priority → ℕ → Action
+  Commit : Priority → ℕ → Action
+  Reboot : Priority → Action
   -- the manager's resynchronisation, its audit of the alarms, and its comparison of both counters
   Resync : Action
   Audit : Action
   Check : Action
+  -- its download of an image into a slot: how many sections it asks for in a window, and the check
+  -- value that it gives in the place of the image's own
+  Image : (slot window : ℕ) (check : Option ℕ) (image : List ℕ) → Action
   -- the link
   Deliver : ℕ → Action
   Flow : ℕ → Action
+  -- it delivers a packet, and the power of the unit goes at a device call
+  CutIn : (packet call : ℕ) → Pick → Action
   NoiseUnit : List ℕ → Action
   NoiseOlt : List ℕ → Action
   -- one second
@@ -66,6 +79,10 @@ order name fields = record { name = name; fields = fields; ordered = true }
 abbrev pub id : Form
 id = Decimal 0 MAX_ID
 
+-- the number of an image slot
+abbrev pub slot : Form
+slot = Decimal 0 MAX_SLOT
+
 -- the number of a lane's first command
 abbrev pub lane_number : Form
 lane_number = Decimal 1 LAST_NUMBER
@@ -77,11 +94,19 @@ row lines.Get = order (codes "get" ∷ []) (LaneName ∷ id ∷ id ∷ MaskDigit
 row lines.Create = order (codes "create" ∷ []) (LaneName ∷ id ∷ id ∷ HexBytes 0 MAX_CREATE ∷ [])
 row lines.Set = order (codes "set" ∷ []) (LaneName ∷ id ∷ id ∷ MaskDigits ∷ HexBytes 0 MAX_SET ∷ [])
 row lines.Delete = order (codes "delete" ∷ []) (LaneName ∷ id ∷ id ∷ [])
+row lines.Activate = order (codes "activate" ∷ []) (LaneName ∷ slot ∷ [])
+row lines.Commit = order (codes "commit" ∷ []) (LaneName ∷ slot ∷ [])
+row lines.Reboot = order (codes "reboot" ∷ []) (LaneName ∷ [])
 row lines.Resync = order (codes "resync" ∷ []) []
 row lines.Audit = order (codes "audit" ∷ []) []
 row lines.Check = order (codes "check" ∷ []) []
+row lines.Image =
+    order (codes "image" ∷ [])
+    (slot ∷ Decimal 1 MAX_ASKED ∷ CheckDigits ∷ HexBytes 1 MAX_IMAGE ∷ [])
 row lines.Deliver = line (codes "deliver" ∷ []) (Decimal 0 LAST_PACKET ∷ [])
 row lines.Flow = line (codes "flow" ∷ []) (Decimal 1 MAX_FLOW ∷ [])
+row lines.CutIn =
+    line (codes "cutin" ∷ []) (Decimal 0 LAST_PACKET ∷ Decimal 1 MAX_CALL ∷ PickName ∷ [])
 row lines.NoiseUnit = line (codes "noise" ∷ codes "unit" ∷ []) (NoiseBytes MAX_NOISE ∷ [])
 row lines.NoiseOlt = line (codes "noise" ∷ codes "olt" ∷ []) (NoiseBytes MAX_NOISE ∷ [])
 row lines.Tick = line (codes "tick" ∷ []) []
@@ -97,8 +122,10 @@ row lines.StartOlt = line (codes "start" ∷ codes "olt" ∷ []) (lane_number �
 abbrev pub all_lines : List Line
 all_lines =
     lines.Probe ∷ lines.Reset ∷ lines.Get ∷ lines.Create ∷ lines.Set ∷ lines.Delete
-    ∷ lines.Resync ∷ lines.Audit ∷ lines.Check ∷ lines.Deliver ∷ lines.Flow ∷ lines.NoiseUnit
-    ∷ lines.NoiseOlt ∷ lines.Tick ∷ lines.Sense ∷ lines.Alarm ∷ lines.CutUnit ∷ lines.CutOlt ∷ lines.StartUnit ∷ lines.StartOlt ∷ []
+    ∷ lines.Activate ∷ lines.Commit ∷ lines.Reboot ∷ lines.Resync ∷ lines.Audit ∷ lines.Check
+    ∷ lines.Image ∷ lines.Deliver ∷ lines.Flow ∷ lines.CutIn ∷ lines.NoiseUnit ∷ lines.NoiseOlt
+    ∷ lines.Tick ∷ lines.Sense ∷ lines.Alarm ∷ lines.CutUnit ∷ lines.CutOlt ∷ lines.StartUnit
+    ∷ lines.StartOlt ∷ []
 
 -- whether a document has lines of this kind
 abbrev pub has : Document → Line → Bool
@@ -128,11 +155,18 @@ said (Set lane entity mask values) =
     (Lane lane ∷ Number entity.class ∷ Number entity.instance ∷ Number mask ∷ Bytes values ∷ [])
 said (Delete lane entity) =
     says lines.Delete (Lane lane ∷ Number entity.class ∷ Number entity.instance ∷ [])
+said (Activate lane slot) = says lines.Activate (Lane lane ∷ Number slot ∷ [])
+said (Commit lane slot) = says lines.Commit (Lane lane ∷ Number slot ∷ [])
+said (Reboot lane) = says lines.Reboot (Lane lane ∷ [])
 said Resync = says lines.Resync []
 said Audit = says lines.Audit []
 said Check = says lines.Check []
+said (Image slot window check image) =
+    says lines.Image (Number slot ∷ Number window ∷ CheckValue check ∷ Bytes image ∷ [])
 said (Deliver packet) = says lines.Deliver (Number packet ∷ [])
 said (Flow times) = says lines.Flow (Number times ∷ [])
+said (CutIn packet call pick) =
+    says lines.CutIn (Number packet ∷ Number call ∷ PickOf pick ∷ [])
 said (NoiseUnit bytes) = says lines.NoiseUnit (Bytes bytes ∷ [])
 said (NoiseOlt bytes) = says lines.NoiseOlt (Bytes bytes ∷ [])
 said Tick = says lines.Tick []
@@ -168,6 +202,12 @@ number_at place values = number_in (value_at place values)
 abbrev pub bytes_at : ℕ → List Value → List ℕ
 bytes_at place values = bytes_in (value_at place values)
 
+abbrev pub check_at : ℕ → List Value → Option ℕ
+check_at place values = check_in (value_at place values)
+
+abbrev pub pick_at : ℕ → List Value → Pick
+pick_at place values = pick_in (value_at place values)
+
 -- the entity whose class stands at a place, with its instance after it
 abbrev pub entity_at : ℕ → List Value → EntityId
 entity_at place values =
@@ -181,11 +221,16 @@ action_with lines.Get v = Get (lane_at 0 v) (entity_at 1 v) (number_at 3 v)
 action_with lines.Create v = Create (lane_at 0 v) (entity_at 1 v) (bytes_at 3 v)
 action_with lines.Set v = Set (lane_at 0 v) (entity_at 1 v) (number_at 3 v) (bytes_at 4 v)
 action_with lines.Delete v = Delete (lane_at 0 v) (entity_at 1 v)
+action_with lines.Activate v = Activate (lane_at 0 v) (number_at 1 v)
+action_with lines.Commit v = Commit (lane_at 0 v) (number_at 1 v)
+action_with lines.Reboot v = Reboot (lane_at 0 v)
 action_with lines.Resync v = Resync
 action_with lines.Audit v = Audit
 action_with lines.Check v = Check
+action_with lines.Image v = Image (number_at 0 v) (number_at 1 v) (check_at 2 v) (bytes_at 3 v)
 action_with lines.Deliver v = Deliver (number_at 0 v)
 action_with lines.Flow v = Flow (number_at 0 v)
+action_with lines.CutIn v = CutIn (number_at 0 v) (number_at 1 v) (pick_at 2 v)
 action_with lines.NoiseUnit v = NoiseUnit (bytes_at 0 v)
 action_with lines.NoiseOlt v = NoiseOlt (bytes_at 0 v)
 action_with lines.Tick v = Tick

@@ -5,6 +5,7 @@ use Rattle.std.specs.Prelude.{Err}
 use Rattle.std.specs.List.{list_all, onto_first}
 use Rattle.std.specs.Char.{is_ascii_digit}
 use Rattle.std.specs.Str.{bytes_eq}
+use Rattle.std.specs.Int.{w32, from_be_bytes}
 use Rattle.hex.specs.Hex.{decode_of, decode_sized}
 use Rattle.hex.specs.declared.error.FromHexError.{FromHexError}
 use Rattle.omci_types.specs.declared.Priority.{Priority}
@@ -66,6 +67,15 @@ abbrev pub lane_text : Priority → List ℕ
 lane_text Low = codes "low"
 lane_text High = codes "high"
 
+-- ---- picks
+
+-- the names of what a cut gives to each byte, but for a stated one
+abbrev pub old_text : List ℕ
+old_text = codes "old"
+
+abbrev pub new_text : List ℕ
+new_text = codes "new"
+
 -- ---- numbers
 
 -- the number of decimal digits, where `front` is the number of the digits before them
@@ -108,3 +118,21 @@ mask_value None = None
 -- the mask that exactly four hex digits stand for
 unfoldable pub mask_of : List ℕ → Option ℕ
 mask_of word = mask_value (decoded (decode_sized word 2))
+
+-- the number of four bytes, the first one highest
+abbrev pub check_value : Option (List ℕ) → Option ℕ
+check_value (Some bytes) = Some (from_be_bytes w32 bytes)
+check_value None = None
+
+-- the check value that exactly eight hex digits stand for
+unfoldable pub check_of : List ℕ → Option ℕ
+check_of word = check_value (decoded (decode_sized word 4))
+
+-- the first byte
+abbrev pub first_byte : Option (List ℕ) → Option ℕ
+first_byte (Some bytes) = Some (slice_index bytes 0)
+first_byte None = None
+
+-- the byte that exactly two hex digits stand for
+unfoldable pub byte_of : List ℕ → Option ℕ
+byte_of word = first_byte (decoded (decode_sized word 1))

@@ -12,11 +12,16 @@ pub enum Line {
     Create,
     Set,
     Delete,
+    Activate,
+    Commit,
+    Reboot,
     Resync,
     Audit,
     Check,
+    Image,
     Deliver,
     Flow,
+    CutIn,
     NoiseUnit,
     NoiseOlt,
     Tick,
@@ -57,8 +62,16 @@ pub const MAX_ATTRIBUTE: u64 = 16;
 pub const MAX_SENSED: usize = 25;
 /// The most bytes of an entity's alarms.
 pub const MAX_BITMAP: usize = 28;
+/// The largest number of an image slot.
+pub const MAX_SLOT: u64 = 1;
+/// The most sections that a download asks for in a window.
+pub const MAX_ASKED: u64 = 256;
+/// The most bytes of an image that the manager downloads.
+pub const MAX_IMAGE: usize = 16_777_216;
 /// The most packets that one line lets flow.
 pub const MAX_FLOW: u64 = 65_536;
+/// The last device call at which a line cuts the power.
+pub const MAX_CALL: u64 = 1_000;
 /// The most bytes of a line's noise.
 pub const MAX_NOISE: usize = 4_096;
 /// The most bytes that an image slot has room for.

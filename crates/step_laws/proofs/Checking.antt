@@ -117,7 +117,7 @@ get_read f mask byte unsupported g e =
 
 answer_read : (f : Frame) (u : Onu) (byte : ℕ) (g : Frame) → f.entity ≡ sync_entity
     → Got (get_outcome ONU_DATA 0x8000 u.database) byte
-    → packet_frame (spelling (answer f sync_request u).reply) ≡ Some g → Reads g byte
+    → packet_frame (spelling (answer false f sync_request u).reply) ≡ Some g → Reads g byte
 unfolding answer
 answer_read f u byte g entity k e =
     let o : GetOutcome = get_outcome f.entity 0x8000 u.database in
@@ -152,7 +152,7 @@ read_equal g byte x k e =
 
 pub checks_equal : (f g : Frame) (m : Manager) (u : Onu) (copy : Copy) → IsCopied u.database copy
     → m.copy ≡ Some copy → f.entity ≡ sync_entity
-    → packet_frame (spelling (answer f sync_request u).reply) ≡ Some g → ChecksEqual m u g
+    → packet_frame (spelling (answer false f sync_request u).reply) ≡ Some g → ChecksEqual m u g
 unfolding counter
 checks_equal f g m u copy h has entity e = λ x same.
     let held = some_held (managed_of ONU_DATA u.database) h.counted in

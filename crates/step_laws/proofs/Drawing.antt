@@ -1,28 +1,26 @@
 -- A lane that is free draws a command and sends it.
-use Rattle.std.proofs.Common.{◌≡◌, ◌≢◌, ℕ, ◌+◌, ◌<◌, ◌^◌, true, false, List, [], ◌∷◌, ◌++◌, Option}
-use Rattle.std.proofs.Common.{Some, None, inl, inr, ⊎_elim, refl, sym, ap, subst, ◌∙◌, arith, ◌==◌}
+use Rattle.std.proofs.Common.{◌≡◌, ◌≢◌, ℕ, ◌+◌, ◌<◌, ◌^◌, true, false, List, Option}
+use Rattle.std.proofs.Common.{Some, None, ◌⊎◌, inl, inr, ⊎_elim, refl, sym, ap, subst, ◌∙◌, arith, ◌==◌}
 use Rattle.std.proofs.lemmas.Option.{same_Some}
 use Rattle.omci_types.specs.declared.Priority.{Priority}
 use Rattle.omci_types.specs.declared.Priority.TheVariants.{Low, High}
 use Rattle.tci_spec.specs.Tci.{priority_of, tci_of}
-use Rattle.frame_spec.specs.Baseline.{spelling}
 use Rattle.upload_spec.specs.Pieces.{Copy}
-use Rattle.link_spec.specs.Link.{Sent, Link, lane_of, sent_on}
-use Rattle.lane_spec.specs.Command.{Command, command_frame, is_changing}
+use Rattle.link_spec.specs.Link.{Link, lane_of}
+use Rattle.lane_spec.specs.Command.{Command, is_changing}
 use Rattle.lane_spec.specs.Lane.{Lane, Waiting, next_tci, with_command}
 use Rattle.manager_spec.specs.declared.Phase.TheVariants as phase
 use Rattle.manager_spec.specs.Manager.{Stage, Manager}
 use Rattle.unit_spec.specs.Onu.{Onu}
 use Rattle.history_spec.specs.History.{WasCarried}
 use Rattle.world_spec.specs.History.{Told}
-use Rattle.resync_laws.proofs.Sending.{packet_of}
-use Rattle.step_laws.proofs.Coming.{Coming, coming_map, coming_more}
-use Rattle.step_laws.proofs.Reading.{changes_of}
+use Rattle.step_laws.proofs.Coming.{coming_map}
+use Rattle.step_laws.proofs.Milder.{KeepsCommand}
 use Rattle.step_laws.proofs.Parts.{lane_at, out_in, last_in, IsNewest, IsWaiting, LaneOk, IsBelow}
-use Rattle.step_laws.proofs.Parts.{IsLeft, IsPut, IsQuiet, IsCalm, IsCurrent, AtStep, IsFollowed}
+use Rattle.step_laws.proofs.Parts.{IsPut, IsQuiet, IsCurrent, AtStep, IsFollowed, IsImages}
 use Rattle.step_laws.proofs.Parts.{IsItsChange, IsSettled, IsOnTheWay, NoPacket, InPhase, Steady}
 use Rattle.step_laws.proofs.Parts.{left_of}
-use Rattle.step_laws.proofs.Sending.{in_lane, next_in, next_fits, number_fits, same_more, same_lane}
+use Rattle.step_laws.proofs.Sending.{next_in, next_fits, number_fits, same_lane}
 use Rattle.step_laws.proofs.Sending.{not_both}
 
 -- the manager, whose lane l has drawn a command, and what is told of it
@@ -33,9 +31,10 @@ pub record Draws (l : Priority) (c : Command) (m a : Manager) (t u : Told) : Typ
   pub own : last_in l u ≡ t.drawn
   pub other : (k : Priority) → k ≢ l → last_in k u ≡ last_in k t
 
--- a change that is drawn is followed, and none waits in the other lane
-pub record IsFair (l : Priority) (m : Manager) (w : Waiting) : Type 0 where
-  pub followed : m.phase ≡ phase.InStep → IsFollowed w
+-- a change that is drawn is followed, or is that of the job after it; and none waits in the other
+-- lane
+pub record IsFair (l : Priority) (m : Manager) (job : Option Stage) (w : Waiting) : Type 0 where
+  pub followed : m.phase ≡ phase.InStep → IsFollowed w ⊎ IsImages l job w
   pub alone : (k : Priority) (v : Waiting) → k ≢ l → out_in k m ≡ Some v
       → is_changing v.command.request ≡ false
 
@@ -51,22 +50,10 @@ module _ (l : Priority) (c : Command) (link : Link) (lives : ℕ) (unit : Option
     low = a;
     high = b;
     asking = asking;
-    names =
-        t.names ++ t.drawn ∷ [];
   }
 
   abbrev drawn_by : Waiting
   drawn_by = record { tci = next_tci (lane_at l m.low m.high); command = c; ticks = 0; repeats = 0 }
-
-  abbrev packet : Sent
-  packet = packet_of (next_tci (lane_at l m.low m.high)) c
-
-  abbrev sent : Link
-  sent = sent_on packet link
-
-  pub more : (P : Sent → ℕ → Type 0) → P packet t.drawn → Coming P link t.names
-      → Coming P sent told.names
-  more P p k = coming_more P link t.names packet t.drawn h.same (λ d. p) k
 
   tci_is : next_tci (lane_at l m.low m.high) ≡ tci_of l (lane_at l m.low m.high).next
   tci_is = ap (λ p. tci_of p (lane_at l m.low m.high).next) (h.lanes l).priority
@@ -77,9 +64,6 @@ module _ (l : Priority) (c : Command) (link : Link) (lives : ℕ) (unit : Option
   its_tci_fits : next_tci (lane_at l m.low m.high) < 2 ^ 16
   its_tci_fits = subst (λ n. n < 2 ^ 16) (sym tci_is)
       (next_fits l (lane_at l m.low m.high).next (h.lanes l).number)
-
-  packet_lane : lane_of packet.bytes ≡ l
-  packet_lane = in_lane l (next_tci (lane_at l m.low m.high)) c in_its_lane its_tci_fits
 
   module _ (d : Draws l c m after t told) where
     waits_now : out_in l after ≡ Some drawn_by
@@ -98,48 +82,39 @@ module _ (l : Priority) (c : Command) (link : Link) (lives : ℕ) (unit : Option
     waits_elsewhere k w e same = let z : out_in l m ≡ Some w =
         subst (λ q. out_in q m ≡ Some w) same e in let f = d.free in cc
 
-    mine_ok : LaneOk l (with_command c (lane_at l m.low m.high)) sent told.names told.drawn t.drawn
+    mine_ok : LaneOk l (with_command c (lane_at l m.low m.high)) link t.names told.drawn t.drawn
     mine_ok = let k = h.lanes l in record {
       priority = k.priority;
       number = number_fits ((lane_at l m.low m.high).next == 32767)
           (lane_at l m.low m.high).next refl k.number;
       out = λ w e. subst (IsWaiting l told.drawn t.drawn) (same_Some drawn_by w e)
           (record { lane_is = in_its_lane; fits = its_tci_fits; early = omega arith });
-      newest = more (IsNewest l t.drawn (Some drawn_by)) (
-        (λ e. omega arith),
-        (λ w e n. ap
-            (λ (z : Waiting). spelling (command_frame z.tci z.command)) (same_Some drawn_by w e)),
-      )
-          (coming_map (IsBelow t.drawn) (IsNewest l t.drawn (Some drawn_by)) link t.names
+      newest = coming_map (IsBelow t.drawn) (IsNewest l t.drawn (Some drawn_by)) link t.names
           (λ s name lt. ((λ e. omega (arith, lt)), (λ w e n. absurd (omega (arith, lt, n)))))
-          h.below);
+          h.below;
     }
 
-    other_ok : (k : Priority) → k ≢ l → LaneOk k (lane_at k m.low m.high) sent told.names told.drawn
+    other_ok : (k : Priority) → k ≢ l → LaneOk k (lane_at k m.low m.high) link t.names told.drawn
         (last_in k t)
     other_ok k ne = let q = h.lanes k in record {
       priority = q.priority;
       number = q.number;
       out = λ w e. let z = q.out w e in let lt = z.early in
           record { lane_is = z.lane_is; fits = z.fits; early = omega (arith, lt) };
-      newest = more (IsNewest k (last_in k t) (out_in k m)) (
-        (λ e. absurd (ne (sym e ∙ packet_lane))),
-        (λ w e n. let lt = (q.out w e).early in absurd (omega (arith, lt, n))),
-      )
-          q.newest;
+      newest = q.newest;
     }
 
-    lane_ok : (k : Priority) → LaneOk k (lane_at k after.low after.high) sent told.names told.drawn
+    lane_ok : (k : Priority) → LaneOk k (lane_at k after.low after.high) link t.names told.drawn
         (last_in k told)
     lane_ok k = ⊎_elim
         (λ (e : k ≡ l). subst (λ q. LaneOk q
-        (lane_at q after.low after.high) sent told.names told.drawn (last_in q told)) (sym e)
-        (subst (λ z. LaneOk l z sent told.names told.drawn (last_in l told)) (sym d.mine)
-        (subst (LaneOk l (with_command c (lane_at l m.low m.high)) sent told.names told.drawn)
+        (lane_at q after.low after.high) link t.names told.drawn (last_in q told)) (sym e)
+        (subst (λ z. LaneOk l z link t.names told.drawn (last_in l told)) (sym d.mine)
+        (subst (LaneOk l (with_command c (lane_at l m.low m.high)) link t.names told.drawn)
         (sym d.own) mine_ok)))
         (λ (ne : k ≢ l).
-        subst (λ z. LaneOk k z sent told.names told.drawn (last_in k told)) (sym (d.others k ne))
-        (subst (LaneOk k (lane_at k m.low m.high) sent told.names told.drawn) (sym (d.other k ne))
+        subst (λ z. LaneOk k z link t.names told.drawn (last_in k told)) (sym (d.others k ne))
+        (subst (LaneOk k (lane_at k m.low m.high) link t.names told.drawn) (sym (d.other k ne))
         (other_ok k ne)))
         (same_lane k l)
 
@@ -163,11 +138,10 @@ module _ (l : Priority) (c : Command) (link : Link) (lives : ℕ) (unit : Option
     -- ---- an upload
 
     pub draw_put : (P : List ℕ → Type 0) (upload : ℕ) → IsPut P upload link lives m t
-        → IsPut P upload sent lives after told
+        → IsPut P upload link lives after told
     draw_put P upload k = let lt = k.early in record {
       early = omega (arith, lt);
-      packets = more (IsLeft P upload lives t.history)
-          (λ n. absurd (omega (arith, lt, n))) k.packets;
+      packets = k.packets;
       out = λ lane w e n. ⊎_elim
           (λ (s : lane ≡ l). let own = subst (λ q. last_in q told ≡ t.drawn) (sym s) d.own in
           absurd (omega (arith, lt, n, own)))
@@ -181,47 +155,37 @@ module _ (l : Priority) (c : Command) (link : Link) (lives : ℕ) (unit : Option
         (is_drawn w (subst (λ q. out_in q after ≡ Some w) same e)) mild)
         (λ (ne : lane ≢ l). k lane w b (before lane w ne e)) (same_lane lane l)
 
-    pub draw_calm : is_changing c.request ≡ false → (lane : Priority)
-        → Coming (IsCalm lane) link t.names → Coming (IsCalm lane) sent told.names
-    draw_calm mild lane k = more (IsCalm lane)
-        (λ e ch. not_both _ (changes_of (next_tci (lane_at l m.low m.high)) c ch) mild) k
-
     -- a job that goes on as it was
     pub draw_step : is_changing c.request ≡ false → asking ≡ t.asking → (s : Stage)
-        → AtStep link lives unit m t s → AtStep sent lives unit after told s
+        → AtStep link lives unit m t s → AtStep link lives unit after told s
     draw_step mild same s k = record {
       quiet = draw_quiet mild s k.quiet;
-      calm = λ lane p. draw_calm mild lane (k.calm lane p);
-      put = λ e. subst (λ n. IsPut (left_of s) n sent lives after told) (sym same)
+      calm = k.calm;
+      put = λ e. subst (λ n. IsPut (left_of s) n link lives after told) (sym same)
           (draw_put (left_of s) t.asking (k.put e));
       current = λ e. subst (λ n. IsCurrent n lives unit t.history) (sym same) (k.current e);
     }
 
     -- ---- in step
 
-    draw_phase : (is_changing c.request ≡ true → IsFair l m drawn_by) → m.phase ≡ phase.InStep
-        → (copy : Copy) (upload : ℕ)
-        → InPhase link lives unit m t copy upload → InPhase sent lives unit after told copy upload
-    draw_phase fair in_step copy upload k = record {
+    draw_phase : (is_changing c.request ≡ true → IsFair l m j drawn_by)
+        → KeepsCommand m.job j → m.phase ≡ phase.InStep → (copy : Copy) (upload : ℕ)
+        → InPhase link lives unit m t copy upload → InPhase link lives unit after told copy upload
+    draw_phase fair keeps in_step copy upload k = record {
       synced = k.synced;
       put = draw_put NoPacket upload k.put;
       one = λ w v e f g i. one_by l refl w v e f g i;
       made = λ lane w e g. ⊎_elim
           (λ (s : lane ≡ l).
           let is = is_drawn w (subst (λ q. out_in q after ≡ Some w) s e) in
-          subst IsFollowed is ((fair (ap (λ (z : Waiting). is_changing z.command.request) is
-          ∙ g)).followed in_step))
-          (λ (ne : lane ≢ l). k.made lane w (before lane w ne e) g) (same_lane lane l);
-      settled = more (IsSettled lives after told)
-          (λ ch. inl (subst (λ q. IsItsChange (out_in q after) (last_in q told) t.drawn)
-          (sym packet_lane)
-          (record {
-            waiting = drawn_by;
-            waits = waits_now;
-            changing =
-                changes_of (next_tci (lane_at l m.low m.high)) c ch;
-            named = sym d.own;
-          })))
+          subst (λ x. IsFollowed x ⊎ IsImages lane j x) is
+          (subst (λ q. IsFollowed drawn_by ⊎ IsImages q j drawn_by) (sym s)
+          ((fair (ap (λ (z : Waiting). is_changing z.command.request) is ∙ g)).followed in_step)))
+          (λ (ne : lane ≢ l). ⊎_elim
+          (λ (x : IsFollowed w). inl x)
+          (λ (x : IsImages lane m.job w). inr (record { low = x.low; at = keeps w.command x.at }))
+          (k.made lane w (before lane w ne e) g)) (same_lane lane l);
+      settled =
           (coming_map (IsSettled lives m t) (IsSettled lives after told) link t.names
           (λ s name q ch. ⊎_elim
           (λ z. let ne = waits_elsewhere (lane_of s.bytes) z.waiting z.waits in inl (record {
@@ -260,14 +224,14 @@ module _ (l : Priority) (c : Command) (link : Link) (lives : ℕ) (unit : Option
             not_both _ g ((fair (ap (λ (z : Waiting). is_changing z.command.request) is ∙ i)).alone
             Low w ne (before Low w ne e))
 
-    pub draw_steady : (is_changing c.request ≡ true → IsFair l m drawn_by)
-        → ((s : Stage) → j ≡ Some s → AtStep sent lives unit after told s)
-        → Steady sent lives unit after told
-    draw_steady fair job = record {
-      same = same_more link.packets packet t.names t.drawn h.same;
-      below = more (IsBelow told.drawn) (omega arith)
-          (coming_map (IsBelow t.drawn) (IsBelow told.drawn) link t.names
-          (λ s name lt. omega (arith, lt)) h.below);
+    pub draw_steady : (is_changing c.request ≡ true → IsFair l m j drawn_by)
+        → KeepsCommand m.job j
+        → ((s : Stage) → j ≡ Some s → AtStep link lives unit after told s)
+        → Steady link lives unit after told
+    draw_steady fair keeps job = record {
+      same = h.same;
+      below = coming_map (IsBelow t.drawn) (IsBelow told.drawn) link t.names
+          (λ s name lt. omega (arith, lt)) h.below;
       lanes = lane_ok;
       apart = λ w v e f. apart_by l refl w v e f;
       known = λ life command was. let lt = h.known life command was in omega (arith, lt);
@@ -278,6 +242,6 @@ module _ (l : Priority) (c : Command) (link : Link) (lives : ℕ) (unit : Option
             upload = k.upload;
             has = k.has;
             phase =
-                draw_phase fair e k.copy k.upload k.phase;
+                draw_phase fair keeps e k.copy k.upload k.phase;
           };
     }

@@ -1,7 +1,8 @@
 -- Packets that come to the manager.
 use Rattle.std.proofs.Common.{◌≡◌, ◌≢◌, ℕ, ◌+◌, ◌≤◌, Bool, true, false, List, [], ◌∷◌, ◌++◌, length}
-use Rattle.std.proofs.Common.{Option, Some, None, ◌⊎◌, inl, inr, refl, sym, ap, subst, ◌∙◌, arith}
-use Rattle.std.proofs.Common.{nat_le, is_some, Result, Ok, Err}
+use Rattle.std.proofs.Common.{Option, Some, None, ◌⊎◌, inl, inr, ⊎_elim, refl, sym, ap, subst, ◌∙◌}
+use Rattle.std.proofs.Common.{arith, nat_le, nat_lt, min, cond, ◌==◌, is_some, Result, Ok, Err}
+use Rattle.std.specs.Option.{option_map}
 use Rattle.std.proofs.lemmas.Option.{same_Some}
 use Rattle.std.proofs.lemmas.Bool.{false≢true}
 use Rattle.std.specs.List.{flat_map}
@@ -29,12 +30,25 @@ use Rattle.upload_spec.specs.declared.PieceFault.{PieceFault}
 use Rattle.upload_spec.specs.declared.PieceFault.TheVariants as fault
 use Rattle.upload_spec.specs.Pieces.{Copy}
 use Rattle.upload_spec.specs.Copies.{with_piece, piece_fault, copied_counter, copy_counter}
+use Rattle.upload_spec.specs.Copies.{copy_grown}
 use Rattle.link_spec.specs.Link.{Sent, Link, lane_of}
 use Rattle.lane_spec.specs.declared.Purpose.{Purpose}
 use Rattle.lane_spec.specs.declared.Purpose.TheVariants as purpose
-use Rattle.lane_spec.specs.Command.{is_probe, is_changing}
+use Rattle.lane_spec.specs.Command.{Command, is_probe, is_changing, answers}
+use Rattle.message_spec.specs.declared.Request.{Request}
+use Rattle.message_spec.specs.declared.Request.TheVariants as request
+use Rattle.omci_types.specs.declared.TheConstants.Code.{BUSY}
+use Rattle.window_spec.specs.Outgoing.{Outgoing, new_outgoing, is_last, after_window}
 use Rattle.lane_spec.specs.Lane.{Lane, Waiting, end_command}
+use Rattle.manager_spec.specs.declared.Phase.{Phase}
 use Rattle.manager_spec.specs.declared.Phase.TheVariants as phase
+use Rattle.manager_spec.specs.declared.TheConstants.{MOST_RESENT, MOST_BUSY}
+use Rattle.manager_spec.specs.declared.ImageReason.{ImageReason}
+use Rattle.manager_spec.specs.declared.ImageReason.TheVariants as image_reason
+use Rattle.manager_spec.specs.Copying.{grown_in_step, counted_in_step}
+use Rattle.manager_spec.specs.Upgrade.{image_failed, started_if, image_started, window_taken}
+use Rattle.manager_spec.specs.Upgrade.{window_refused, window_by, window_answered, busy_if, end_by}
+use Rattle.manager_spec.specs.Upgrade.{end_answered}
 use Rattle.manager_spec.specs.declared.ResyncReason.{ResyncReason}
 use Rattle.manager_spec.specs.declared.ResyncReason.TheVariants as reason
 use Rattle.manager_spec.specs.declared.AuditReason.{AuditReason}
@@ -43,7 +57,8 @@ use Rattle.manager_spec.specs.declared.Report.{Report}
 use Rattle.manager_spec.specs.declared.Report.TheVariants as report
 use Rattle.manager_spec.specs.Manager.{Stage, Probing, Asking, Gathering, AskingAlarms}
 use Rattle.manager_spec.specs.Manager.{GatheringRows, Manager, Outcome, lane_in, with_lane}
-use Rattle.manager_spec.specs.Manager.{with_report, sends_nothing, and_then}
+use Rattle.manager_spec.specs.Manager.{with_report, sends_nothing, and_then, Order}
+use Rattle.manager_spec.specs.Manager.{StartingImage, SendingImage, EndingImage, DelayingEnd}
 use Rattle.manager_spec.specs.Resync.{with_job, resync_failed, resync_done, done_if_counted}
 use Rattle.manager_spec.specs.Resync.{gather_unless_all, gather_on, piece_by}
 use Rattle.manager_spec.specs.Audit.{with_table, audit_failed, audit_done, rows_unless_all, rows_on}
@@ -52,29 +67,35 @@ use Rattle.manager_spec.specs.Audit.{notice_came}
 use Rattle.manager_spec.specs.Jobs.{job_goes_on}
 use Rattle.manager_spec.specs.Steps.{response_of, with_taken, probe_taken, followed_by, checked_by}
 use Rattle.manager_spec.specs.Steps.{freed, upload_by, piece_by_reply, alarms_by, row_by_reply}
+use Rattle.manager_spec.specs.Steps.{start_by_reply, window_by_reply, end_by_reply}
 use Rattle.manager_spec.specs.Steps.{job_by, taken_as, packet_dropped, not_taken, after_packet}
 use Rattle.unit_spec.specs.Onu.{Onu}
 use Rattle.history_spec.specs.History.{WasCarried, LastSnapshot, SyncedRight}
-use Rattle.world_spec.specs.Ends.{report_told}
+use Rattle.world_spec.specs.Happenings.{link_read}
+use Rattle.world_spec.specs.Ends.{report_told, download_told}
 use Rattle.world_spec.specs.History.{Told, drawn_in, tell_all}
 use Rattle.resync_laws.proofs.Reading.{tci_read}
-use Rattle.resync_laws.proofs.Invariants.{is_job}
-use Rattle.resync_laws.proofs.Telling.{is_synced, NoneSynced, none_more, did_told, Did, synced_told}
+use Rattle.resync_laws.proofs.Invariants.{is_job, Good}
+use Rattle.resync_laws.proofs.Telling.{is_synced, NoneSynced, none_more, did_told, synced_told}
+use Rattle.resync_laws.proofs.Telling.{tell_append, deeds_of, all_deeds}
 use Rattle.resync_laws.proofs.Telling.{audited_told}
 use Rattle.resync_laws.proofs.Taking.{fails, fails_audit, mild_followed, mild_checked, took_told}
 use Rattle.step_laws.proofs.Coming.{Coming}
-use Rattle.step_laws.proofs.Reading.{Changes, changes_of}
+use Rattle.step_laws.proofs.Reading.{packets_change, form, AnswersForm, IsOther, answers_form}
+use Rattle.step_laws.proofs.Copying.{followed_copy}
 use Rattle.step_laws.proofs.Parts.{out_in, last_in, NoPacket, IsPut, IsCalm, AtStep, Steady}
 use Rattle.step_laws.proofs.Parts.{has_asked, is_resync, is_probed, is_barred, probed_resync}
-use Rattle.step_laws.proofs.Parts.{resync_bars}
-use Rattle.step_laws.proofs.Milder.{milder_steady, rejob_steady}
+use Rattle.step_laws.proofs.Parts.{resync_bars, is_image, AtCommand, IsFollowed, IsImages, counted_of}
+use Rattle.step_laws.proofs.Milder.{Fewer, IsKept, fewer_steady, kept_phase, milder_steady}
+use Rattle.step_laws.proofs.Milder.{rejob_steady}
 use Rattle.step_laws.proofs.Sending.{not_both}
 use Rattle.step_laws.proofs.Turning.{Like, like_same, like_then, like_report, like_failed}
 use Rattle.step_laws.proofs.Turning.{like_unaudited, like_checked, like_milder, over_milder}
-use Rattle.step_laws.proofs.Turning.{IsTaken, Takes, takes}
+use Rattle.step_laws.proofs.Turning.{IsTaken, Takes, takes, LaneMild, lane_still, lane_ended, fewer_of}
 use Rattle.step_laws.proofs.Taking.{IsOwn, noticed_steady, took_steady, audited_steady}
 use Rattle.step_laws.proofs.Taking.{submission_steady, probed_steady, gathering_step, synced_steady}
-use Rattle.step_laws.proofs.Going.{StepsTo, steps_after, steps_quiet, then_goes}
+use Rattle.step_laws.proofs.Taking.{change_steady}
+use Rattle.step_laws.proofs.Going.{StepsTo, steps_after, steps_quiet, then_goes, image_step, image_quiet}
 use Rattle.step_laws.proofs.Turns.{out_is}
 
 pub last_is : (lane : Priority) (t : Told) → drawn_in lane t ≡ last_in lane t
@@ -167,8 +188,13 @@ turns_reply None expected next copy f m = inl (turns_freed f m)
 
 -- ---- what becomes of an audit
 
-quiet_unaudited : (why : AuditReason) (m : Manager) → Quietly m (audit_failed why m)
-quiet_unaudited why m = record { like = like_unaudited why m; told = (fails_audit why m).reports }
+-- no download runs
+abbrev IsIdleJob : Manager → Type 0
+IsIdleJob m = (c : Command) → AtCommand m.job c → ⊥
+
+quiet_unaudited : (why : AuditReason) (m : Manager) → IsIdleJob m → Quietly m (audit_failed why m)
+quiet_unaudited why m idle =
+    record { like = like_unaudited why m idle; told = (fails_audit why m).reports }
 
 quiet_same : (m : Manager) → Quietly m m
 quiet_same m = record { like = like_same m; told = λ n. n }
@@ -182,18 +208,31 @@ quiet_then m a b h k = record {
 
 quiet_table : (table : Table) (m : Manager) → Quietly m (with_table table m)
 quiet_table table m = record {
-  like = record { low = refl; high = refl; job = λ s e. e; was = λ e. e; copy = λ e. refl };
+  like = record {
+    low = refl;
+    high = refl;
+    job = λ s e. e;
+    was = λ e. e;
+    copy = λ e. refl;
+    command = λ e c h. h;
+  };
   told = λ n. n;
 }
 
-quiet_audit : (job : Option Stage) (why : AuditReason) (m : Manager)
+quiet_audit : (job : Option Stage) (why : AuditReason) (m : Manager) → m.job ≡ job
     → Quietly m (audit_lost job why m)
-quiet_audit None why m = quiet_same m
-quiet_audit (Some (Probing high low)) why m = quiet_same m
-quiet_audit (Some Asking) why m = quiet_same m
-quiet_audit (Some (Gathering expected next copy)) why m = quiet_same m
-quiet_audit (Some AskingAlarms) why m = quiet_unaudited why m
-quiet_audit (Some (GatheringRows expected next)) why m = quiet_unaudited why m
+quiet_audit None why m e = quiet_same m
+quiet_audit (Some (Probing high low)) why m e = quiet_same m
+quiet_audit (Some Asking) why m e = quiet_same m
+quiet_audit (Some (Gathering expected next copy)) why m e = quiet_same m
+quiet_audit (Some AskingAlarms) why m e =
+    quiet_unaudited why m (λ c x. subst (λ j. AtCommand j c) e x)
+quiet_audit (Some (GatheringRows expected next)) why m e =
+    quiet_unaudited why m (λ c x. subst (λ j. AtCommand j c) e x)
+quiet_audit (Some (StartingImage order asked image)) why m e = quiet_same m
+quiet_audit (Some (SendingImage order outgoing resent)) why m e = quiet_same m
+quiet_audit (Some (EndingImage order image busy)) why m e = quiet_same m
+quiet_audit (Some (DelayingEnd order image busy)) why m e = quiet_same m
 
 -- it gathers rows
 record GathersRows (m a : Manager) : Type 0 where
@@ -220,29 +259,189 @@ audit_on : (expected next : ℕ) (table : Table) (m : Manager)
 unfolding rows_on
 audit_on expected next table m = audit_unless (nat_le expected next) expected next table m
 
-audit_row : (o : Option BadRow) (expected next : ℕ) (row : List ℕ) (m : Manager)
+audit_row : (o : Option BadRow) (expected next : ℕ) (row : List ℕ) (m : Manager) → IsIdleJob m
     → AuditTurns m (row_by o expected next row m)
-audit_row None expected next row m = audit_on expected (next + 1) (after_row row m.table) m
-audit_row (Some bad.Empty) expected next row m = inl (quiet_unaudited audit.Empty m)
-audit_row (Some (bad.Repeated one)) expected next row m =
-    inl (quiet_unaudited (audit.Repeated one) m)
+audit_row None expected next row m i = audit_on expected (next + 1) (after_row row m.table) m
+audit_row (Some bad.Empty) expected next row m i = inl (quiet_unaudited audit.Empty m i)
+audit_row (Some (bad.Repeated one)) expected next row m i =
+    inl (quiet_unaudited (audit.Repeated one) m i)
 
 audit_begins : (o : Option Response) (f : Frame) (m : Manager) → AuditTurns m (alarms_by o f m)
 audit_begins (Some (response.Alarms count)) f m = audit_on count 0 (begun m.table) m
 audit_begins (Some _) f m = inl (turns_freed f m)
 audit_begins None f m = inl (turns_freed f m)
 
-audit_reply : (o : Option Response) (expected next : ℕ) (f : Frame) (m : Manager)
+audit_reply : (o : Option Response) (expected next : ℕ) (f : Frame) (m : Manager) → IsIdleJob m
     → AuditTurns m (row_by_reply o expected next f m)
-audit_reply (Some (response.AlarmsNext row)) expected next f m =
-    audit_row (row_fault row (gathered m.table)) expected next row m
-audit_reply (Some _) expected next f m = inl (turns_freed f m)
-audit_reply None expected next f m = inl (turns_freed f m)
+audit_reply (Some (response.AlarmsNext row)) expected next f m i =
+    audit_row (row_fault row (gathered m.table)) expected next row m i
+audit_reply (Some _) expected next f m i = inl (turns_freed f m)
+audit_reply None expected next f m i = inl (turns_freed f m)
+
+-- ---- what becomes of a download
+
+-- its job goes on or ends, and the copy grows or stays
+record Downs (m a : Manager) (grown : Bool) : Type 0 where
+  low : a.low ≡ m.low
+  high : a.high ≡ m.high
+  phase : a.phase ≡ m.phase
+  job : (s : Stage) → a.job ≡ Some s → is_image s ≡ true
+  copy : a.copy ≡ cond grown (option_map (grown_in_step m.phase) m.copy) m.copy
+  told : NoneSynced m.reports → NoneSynced a.reports
+
+downs_at : (s : Stage) (m : Manager) → is_image s ≡ true → Downs m (with_job (Some s) m) false
+downs_at s m h = record {
+  low = refl;
+  high = refl;
+  phase = refl;
+  job = λ x e. subst (λ y. is_image y ≡ true) (same_Some s x e) h;
+  copy = refl;
+  told = λ n. n;
+}
+
+downs_failed : (why : ImageReason) (m : Manager) → Downs m (image_failed why m) false
+downs_failed why m = record {
+  low = refl;
+  high = refl;
+  phase = refl;
+  job = λ x e. absurd (cc);
+  copy = refl;
+  told = λ n. none_more m.reports (report.ImageFailed why) n refl;
+}
+
+downs_freed : (f : Frame) (s : Stage) (m : Manager) → m.job ≡ Some s → is_image s ≡ true
+    → Downs m (freed f m) false
+downs_freed f s m e h = record {
+  low = refl;
+  high = refl;
+  phase = refl;
+  job = λ x g. subst (λ y. is_image y ≡ true) (same_Some s x (sym e ∙ g)) h;
+  copy = refl;
+  told = λ n. none_more m.reports (report.Freed f.tci) n refl;
+}
+
+started_downs : (b : Bool) (number granted : ℕ) (order : Order) (asked : ℕ) (image : List ℕ)
+    (m : Manager) → Downs m (started_if b number granted order asked image m) b
+unfolding counted_in_step
+started_downs true number granted order asked image m = record {
+  low = refl;
+  high = refl;
+  phase = refl;
+  job = λ x e. subst (λ y. is_image y ≡ true)
+      (same_Some (SendingImage order (new_outgoing image (min asked granted)) 0) x e) refl;
+  copy = refl;
+  told = λ n. n;
+}
+started_downs false number granted order asked image m =
+    downs_failed (image_reason.Code (record { 0 = number })) m
+
+start_downs : (number granted : ℕ) (order : Order) (asked : ℕ) (image : List ℕ) (m : Manager)
+    → Downs m (image_started number granted order asked image m) (number == 0)
+unfolding image_started
+start_downs number granted order asked image m =
+    started_downs (number == 0) number granted order asked image m
+
+taken_downs : (last : Bool) (order : Order) (o : Outgoing) (m : Manager)
+    → Downs m (window_taken last order o m) false
+taken_downs true order o m = downs_at (EndingImage order o.image 0) m refl
+taken_downs false order o m = downs_at (SendingImage order (after_window o) 0) m refl
+
+refused_downs : (more : Bool) (number : ℕ) (order : Order) (o : Outgoing) (resent : ℕ) (m : Manager)
+    → Downs m (window_refused more number order o resent m) false
+refused_downs true number order o resent m = downs_at (SendingImage order o (resent + 1)) m refl
+refused_downs false number order o resent m =
+    downs_failed (image_reason.Code (record { 0 = number })) m
+
+window_by_downs : (good : Bool) (number : ℕ) (order : Order) (o : Outgoing) (resent : ℕ)
+    (m : Manager) → Downs m (window_by good number order o resent m) false
+window_by_downs true number order o resent m = taken_downs (is_last o) order o m
+window_by_downs false number order o resent m =
+    refused_downs (nat_lt resent MOST_RESENT) number order o resent m
+
+window_downs : (number : ℕ) (order : Order) (o : Outgoing) (resent : ℕ) (m : Manager)
+    → Downs m (window_answered number order o resent m) false
+unfolding window_answered
+window_downs number order o resent m = window_by_downs (number == 0) number order o resent m
+
+busy_downs : (more : Bool) (order : Order) (image : List ℕ) (times : ℕ) (m : Manager)
+    → Downs m (busy_if more order image times (with_report (report.Busy times) m)) false
+busy_downs true order image times m = record {
+  low = refl;
+  high = refl;
+  phase = refl;
+  job = λ x e. subst (λ y. is_image y ≡ true) (same_Some (DelayingEnd order image times) x e) refl;
+  copy = refl;
+  told = λ n. none_more m.reports (report.Busy times) n refl;
+}
+busy_downs false order image times m = record {
+  low = refl;
+  high = refl;
+  phase = refl;
+  job = λ x e. absurd (cc);
+  copy = refl;
+  told = λ n.
+      none_more (with_report (report.Busy times) m).reports
+      (report.ImageFailed (image_reason.Code (record { 0 = BUSY.0 })))
+      (none_more m.reports (report.Busy times) n refl) refl;
+}
+
+end_by_downs : (done busy : Bool) (number : ℕ) (order : Order) (image : List ℕ) (times : ℕ)
+    (m : Manager) → Downs m (end_by done busy number order image times m) done
+unfolding counted_in_step
+end_by_downs true busy number order image times m = record {
+  low = refl;
+  high = refl;
+  phase = refl;
+  job = λ x e. absurd (cc);
+  copy = refl;
+  told = λ n. none_more m.reports (report.ImageDone order.slot) n refl;
+}
+end_by_downs false true number order image times m =
+    busy_downs (nat_le (times + 1) MOST_BUSY) order image (times + 1) m
+end_by_downs false false number order image times m =
+    downs_failed (image_reason.Code (record { 0 = number })) m
+
+end_downs : (number : ℕ) (order : Order) (image : List ℕ) (times : ℕ) (m : Manager)
+    → Downs m (end_answered number order image times m) (number == 0)
+unfolding end_answered
+end_downs number order image times m =
+    end_by_downs (number == 0) (number == BUSY.0) number order image times m
+
+start_other : (o : Option Response) → IsOther o → (order : Order) (asked : ℕ) (image : List ℕ)
+    (f : Frame) (m : Manager) → start_by_reply o order asked image f m ≡ freed f m
+start_other (Some (response.Start code granted)) h order asked image f m = absurd h
+start_other _ h order asked image f m = refl
+
+end_other : (o : Option Response) → IsOther o → (order : Order) (image : List ℕ) (busy : ℕ)
+    (f : Frame) (m : Manager) → end_by_reply o order image busy f m ≡ freed f m
+end_other (Some (response.End code)) h order image busy f m = absurd h
+end_other _ h order image busy f m = refl
+
+window_reply_downs : (o : Option Response) (order : Order) (outgoing : Outgoing) (resent : ℕ)
+    (f : Frame) (m : Manager) → m.job ≡ Some (SendingImage order outgoing resent)
+    → Downs m (window_by_reply o order outgoing resent f m) false
+window_reply_downs (Some (response.Section code number)) order outgoing resent f m e =
+    window_downs code.0 order outgoing resent m
+window_reply_downs _ order outgoing resent f m e =
+    downs_freed f (SendingImage order outgoing resent) m e refl
+
+-- a request that is neither a start nor an end, among the job's
+other_form : (r : Request) → is_changing r ≡ false → form r ≡ 0
+other_form (request.Start window size targets target) e = absurd (false≢true (sym e))
+other_form (request.End check size targets target) e = absurd (false≢true (sym e))
+other_form _ e = refl
 
 -- ---- a reply is taken
 
+-- the history is right after the step, where the job was at some stage before
+pub record SomeDid (o : Outcome) (link : Link) (lives : ℕ) (unit : Option Onu)
+    (t : Told) : Type 0 where
+  pub before : Option Stage
+  pub did : Good (link_read (all_deeds before o) link).packets lives unit
+      (Some (record o.manager { reports = [] })) (tell_all (all_deeds before o) t)
+
 abbrev Steps : Outcome → Link → ℕ → Option Onu → Told → Type 0
-Steps o link lives unit t = Did o link lives unit t → StepsTo o link lives unit t
+Steps o link lives unit t = SomeDid o link lives unit t → StepsTo o link lives unit t
 
 same_job : (l : Priority) (x : Lane) (m : Manager) → (with_lane l x m).job ≡ m.job
 same_job Low x m = refl
@@ -268,20 +467,29 @@ module _ (bytes : List ℕ) (f : Frame) (read : packet_frame bytes ≡ Some f) (
   none_told = subst NoneSynced (sym (same_reports l (end_command w (lane_in l m)) m ∙ quiet)) tt
 
   -- a command that isn't a submission is no change, while the manager is in step
-  mild_out : (p : Purpose) → w.command.purpose ≡ p → p ≢ purpose.Submission → m.phase ≡ phase.InStep
+  mild_out : (p : Purpose) → w.command.purpose ≡ p → p ≢ purpose.Submission
+      → (AtCommand m.job w.command → ⊥) → m.phase ≡ phase.InStep
       → is_changing w.command.request ≡ false
-  mild_out p e ne in_step = go (is_changing w.command.request) refl
+  mild_out p e ne other in_step = go (is_changing w.command.request) refl
     where
       go : (b : Bool) → is_changing w.command.request ≡ b → is_changing w.command.request ≡ false
       go false g = g
-      go true g = absurd (ne (sym e ∙ ((h.phase in_step).phase.made l w waits g).submitted))
+      go true g = ⊎_elim
+          (λ (x : IsFollowed w). absurd (ne (sym e ∙ x.submitted)))
+          (λ (x : IsImages l m.job w). absurd (other x.at))
+          ((h.phase in_step).phase.made l w waits g)
+
+  -- only the job's command is that of a download
+  callers_other : (p : Purpose) → w.command.purpose ≡ p → p ≢ purpose.Job
+      → AtCommand m.job w.command → ⊥
+  callers_other p e ne x = ne (sym e ∙ (counted_of m.job w.command x).jobs)
 
   over_steady : (a : Manager) → Like ended a → (p : Purpose) → w.command.purpose ≡ p
-      → p ≢ purpose.Submission → Steady link lives unit a t
-  over_steady a k p e ne =
+      → p ≢ purpose.Submission → (AtCommand m.job w.command → ⊥) → Steady link lives unit a t
+  over_steady a k p e ne other =
       milder_steady link lives unit m a t
       (over_milder l w (end_command w (lane_in l m)).proved m a waits k
-      (λ i. mild_out p e ne (sym (same_phase l (end_command w (lane_in l m)) m) ∙ k.was i))) h
+      (λ i. mild_out p e ne other (sym (same_phase l (end_command w (lane_in l m)) m) ∙ k.was i))) h
 
   quiet_steps : (a : Manager) → NoneSynced a.reports → Steady link lives unit a t
       → StepsTo (and_then (with_taken l a) job_goes_on) link lives unit t
@@ -297,8 +505,8 @@ module _ (bytes : List ℕ) (f : Frame) (read : packet_frame bytes ≡ Some f) (
       let low = heard.fence i x may way lane in
       let k = (h.lanes l).newest i x may way in
       let high = k.0 lane in
-      let bytes_are = k.1 w waits (omega (arith, low, high)) in
-      not_both _ (changes_of w.tci w.command (subst Changes bytes_are ch))
+      let among = k.1 w waits (omega (arith, low, high)) in
+      not_both _ (packets_change w.tci w.command x.bytes among ch)
       ((h.job s e).quiet l w (resync_bars l s resyncs) waits)
 
   probe_steps : w.command.purpose ≡ purpose.Probe
@@ -309,7 +517,8 @@ module _ (bytes : List ℕ) (f : Frame) (read : packet_frame bytes ≡ Some f) (
       (none_more ended.reports (report.Proved l) none_told refl) refl
       (probed_steady l link lives unit x t
       (λ s j. probed_calm s (sym (same_job l (end_command w (lane_in l m)) m) ∙ j))
-      (over_steady x (like_report (report.Proved l) ended) purpose.Probe e (λ z. cc)))
+      (over_steady x (like_report (report.Proved l) ended) purpose.Probe e (λ z. cc)
+      (callers_other purpose.Probe e (λ z. cc))))
 
   -- ---- a submission
 
@@ -333,7 +542,8 @@ module _ (bytes : List ℕ) (f : Frame) (read : packet_frame bytes ≡ Some f) (
       quiet_steps (checked_by (response_of f) f ended)
       ((mild_checked (response_of f) f ended).reports none_told)
       (over_steady (checked_by (response_of f) f ended)
-      (like_checked (response_of f) f ended) purpose.Check e (λ z. cc))
+      (like_checked (response_of f) f ended) purpose.Check e (λ z. cc)
+      (callers_other purpose.Check e (λ z. cc)))
 
 -- ---- the job's reply, in the low lane
 
@@ -341,13 +551,13 @@ module _ (bytes : List ℕ) (f : Frame) (read : packet_frame bytes ≡ Some f) (
     (link : Link) (lives : ℕ) (unit : Option Onu) (t : Told) (h : Steady link lives unit m t)
     (quiet : m.reports ≡ []) (w : Waiting) (waits : out_in Low m ≡ Some w)
     (heard : Heard Low w link lives t bytes) (e : w.command.purpose ≡ purpose.Job)
-    (asking : m.job ≡ Some Asking → t.asking ≡ t.low) where
+    (asking : m.job ≡ Some Asking → t.asking ≡ t.low) (other : AtCommand m.job w.command → ⊥) where
   abbrev freed_low : Manager
   freed_low = record m { low = end_command w m.low }
 
   low_steady : (a : Manager) → Like freed_low a → Steady link lives unit a t
   low_steady a k = over_steady bytes f read m link lives unit t h quiet Low w waits heard a k
-      purpose.Job e (λ z. cc)
+      purpose.Job e (λ z. cc) other
 
   ended_steady : Steady link lives unit freed_low (took_told Low t)
   ended_steady = took_steady Low link lives unit freed_low t
@@ -361,13 +571,17 @@ module _ (bytes : List ℕ) (f : Frame) (read : packet_frame bytes ≡ Some f) (
   none_left (Probing high low) j a = absurd (false≢true a)
   none_left AskingAlarms j a = absurd (false≢true a)
   none_left (GatheringRows expected next) j a = absurd (false≢true a)
+  none_left (StartingImage order asked image) j a = absurd (false≢true a)
+  none_left (SendingImage order outgoing resent) j a = absurd (false≢true a)
+  none_left (EndingImage order image busy) j a = absurd (false≢true a)
+  none_left (DelayingEnd order image busy) j a = absurd (false≢true a)
   none_left (Gathering expected next copy) j a =
       (ended_steady.job (Gathering expected next copy) j).put refl
   none_left Asking j a = record {
     early = ((ended_steady.job Asking j).put refl).early;
     packets = λ i x may way n. inr (subst (λ k. WasCarried lives k t.history)
         (sym (asking j)) own.carried);
-    out = none_out;
+    out = λ lane v g n bytes among. none_out lane v g n;
   }
     where
       none_out : (lane : Priority) (v : Waiting) → out_in lane freed_low ≡ Some v
@@ -394,7 +608,8 @@ module _ (bytes : List ℕ) (f : Frame) (read : packet_frame bytes ≡ Some f) (
       (λ z g. subst (AtStep link lives unit x (took_told Low t))
       (same_Some (Gathering expected next copy) z g)
       (gathering_step link lives unit freed_low (took_told Low t) s a (ended_steady.job s j)
-      (none_left s j a) expected next copy (Some (Gathering expected next copy)))))
+      (none_left s j a) expected next copy (Some (Gathering expected next copy))))
+      (λ v g y. cc))
 
   reports_are : (c : Copy) → tell_all
       (flat_map (report_told (resync_done c freed_low))
@@ -405,15 +620,20 @@ module _ (bytes : List ℕ) (f : Frame) (read : packet_frame bytes ≡ Some f) (
       (took_told Low t)) quiet
 
   -- the copy is the database that was put by
-  synced_last : (copy : Copy) → Did (and_then
+  synced_last : (copy : Copy) → SomeDid (and_then
       (with_taken Low (resync_done copy freed_low)) job_goes_on) link lives unit t
       → LastSnapshot t.asking copy t.history
   unfolding job_goes_on
   synced_last copy did =
       let o = and_then (with_taken Low (resync_done copy freed_low)) job_goes_on in
-      let told = did_told o t (took_told Low t) (synced_told copy (took_told Low t)) refl
+      let ended = flat_map (download_told did.before) o.manager.reports in
+      let told = tell_append (deeds_of o) ended t
+      ∙ ap (λ rs. tell_all (flat_map (download_told did.before)
+      ((rs ++ report.Synced (length copy) (copy_counter copy) ∷ []) ++ report.PhaseIn ∷ []))
+      (tell_all (deeds_of o) t)) quiet
+      ∙ did_told o t (took_told Low t) (synced_told copy (took_told Low t)) refl
       (reports_are copy) in
-      (subst (λ (u : Told). SyncedRight u.history) told did.right).0
+      (subst (λ (u : Told). SyncedRight u.history) told did.did.right).0
 
   syncs_turn : (s : Stage) → m.job ≡ Some s → has_asked s ≡ true → (copy : Copy)
       → Steps (and_then (with_taken Low (resync_done copy freed_low)) job_goes_on) link lives unit t
@@ -439,7 +659,8 @@ module _ (bytes : List ℕ) (f : Frame) (read : packet_frame bytes ≡ Some f) (
       (rejob_steady link lives unit x (Some (GatheringRows expected next)) (took_told Low t)
       (took_steady Low link lives unit x t (low_steady x (quiet_table table freed_low).like))
       (λ z g. subst (AtStep link lives unit (with_job (Some (GatheringRows expected next)) x)
-      (took_told Low t)) (same_Some (GatheringRows expected next) z g) rows_step))
+      (took_told Low t)) (same_Some (GatheringRows expected next) z g) rows_step)
+      (λ v g y. cc))
     where
       none_waits : (lane : Priority) (v : Waiting)
           → is_barred lane (GatheringRows expected next) ≡ true → out_in lane freed_low ≡ Some v
@@ -461,11 +682,11 @@ module _ (bytes : List ℕ) (f : Frame) (read : packet_frame bytes ≡ Some f) (
         current = λ a. absurd (false≢true a);
       }
 
-  audits_turn : (table : Table) → StepsTo
+  audits_turn : (table : Table) → ((c : Command) → AtCommand m.job c → ⊥) → StepsTo
       (and_then (with_taken Low (audit_done (with_table table freed_low))) job_goes_on) link lives
       unit t
   unfolding job_goes_on
-  audits_turn table =
+  audits_turn table idle =
       let x : Manager = with_table table freed_low in
       let y : Manager = audit_done x in
       let u : Told = took_told Low t in
@@ -479,20 +700,20 @@ module _ (bytes : List ℕ) (f : Frame) (read : packet_frame bytes ≡ Some f) (
         low = refl;
         high = refl;
         job = λ s g. absurd (cc);
-        was =
-            λ g. g;
+        was = λ g. g;
         copy = λ g. refl;
+        command = λ g c y. absurd (idle c y);
       }))))
 
-  audit_steps : (a : Manager) → AuditTurns freed_low a
+  audit_steps : (a : Manager) → ((c : Command) → AtCommand m.job c → ⊥) → AuditTurns freed_low a
       → StepsTo (and_then (with_taken Low a) job_goes_on) link lives unit t
-  audit_steps a (inl k) = quiet_turn a k
-  audit_steps a (inr (inl k)) =
+  audit_steps a idle (inl k) = quiet_turn a k
+  audit_steps a idle (inr (inl k)) =
       subst (λ x. StepsTo (and_then (with_taken Low x) job_goes_on) link lives unit t) (sym k.is)
       (rows_turn k.expected k.next k.table)
-  audit_steps a (inr (inr k)) =
+  audit_steps a idle (inr (inr k)) =
       subst (λ x. StepsTo (and_then (with_taken Low x) job_goes_on) link lives unit t) (sym k.is)
-      (audits_turn k.table)
+      (audits_turn k.table idle)
 
   turn_steps : (s : Stage) → m.job ≡ Some s → has_asked s ≡ true → (a : Manager) → Turns freed_low a
       → Steps (and_then (with_taken Low a) job_goes_on) link lives unit t
@@ -504,23 +725,226 @@ module _ (bytes : List ℕ) (f : Frame) (read : packet_frame bytes ≡ Some f) (
       subst (λ x. Steps (and_then (with_taken Low x) job_goes_on) link lives unit t) (sym k.is)
       (syncs_turn s j p k.copy) did
 
+-- the reply to a command of a download
+module _ (bytes : List ℕ) (f : Frame) (read : packet_frame bytes ≡ Some f) (m : Manager)
+    (link : Link) (lives : ℕ) (unit : Option Onu) (t : Told) (h : Steady link lives unit m t)
+    (quiet : m.reports ≡ []) (w : Waiting) (waits : out_in Low m ≡ Some w)
+    (heard : Heard Low w link lives t bytes) (e : w.command.purpose ≡ purpose.Job)
+    (s : Stage) (at : m.job ≡ Some s) (image : is_image s ≡ true) where
+  abbrev image_low : Manager
+  image_low = record m { low = end_command w m.low }
+
+  module _ (a : Manager) (grown : Bool) (k : Downs image_low a grown)
+      (still : is_changing w.command.request ≡ false → grown ≡ false)
+      (copied : is_changing w.command.request ≡ true → m.phase ≡ phase.InStep → (copy : Copy)
+      → m.copy ≡ Some copy
+      → a.copy ≡ Some (followed_copy w.command.entity w.command.request (response_of f) copy)) where
+    image_fewer : Fewer m a
+    image_fewer =
+        fewer_of ⊥ m a
+        (subst (LaneMild ⊥ m.low) (sym k.low)
+        (lane_ended ⊥ m.low w (end_command w m.low).proved waits (λ p. absurd p)))
+        (subst (LaneMild ⊥ m.high) (sym k.high) (lane_still ⊥ m.high))
+
+    image_gone : out_in Low a ≡ None
+    image_gone = ap (λ (x : Lane). x.outstanding) k.low
+
+    image_others : (q : Priority) (v : Waiting) → q ≢ Low → out_in q m ≡ Some v
+        → out_in q a ≡ Some v
+    image_others Low v ne o = absurd (ne refl)
+    image_others High v ne o = ap (λ (x : Lane). x.outstanding) k.high ∙ o
+
+    image_stays : (v : Waiting) → out_in Low a ≡ Some v → AtCommand m.job v.command
+        → AtCommand a.job v.command
+    image_stays v o x = absurd (let n = image_gone in cc)
+
+    image_jobs : (x : Stage) → a.job ≡ Some x → AtStep link lives unit a t x
+    image_jobs x j =
+        image_step x link lives unit a t (k.job x j)
+        (λ v o. image_quiet s link lives unit m t image (h.job s at) v
+        (ap (λ (y : Lane). y.outstanding) (sym k.high) ∙ o))
+
+    image_kept : is_changing w.command.request ≡ false → IsKept m a
+    image_kept mild Low v o c =
+        let same = same_Some w v (sym waits ∙ o) in
+        absurd (false≢true (sym mild ∙ ap (λ (y : Waiting). is_changing y.command.request) same ∙ c))
+    image_kept mild High v o c =
+        record { waiting = v; waits = image_others High v (λ z. cc) o; tci = refl; command = refl }
+
+    image_by : (b : Bool) → is_changing w.command.request ≡ b → Steady link lives unit a t
+    image_by true g =
+        change_steady Low w link lives unit m a t bytes f read waits g
+        (heard.own (ap is_probe e)).carried (heard.own (ap is_probe e)).reply image_fewer image_gone
+        image_others image_stays image_jobs (λ p. sym k.phase ∙ p)
+        (λ copy p has. copied g p copy has) h
+    image_by false g =
+        fewer_steady link lives unit m a t image_fewer h image_jobs (λ p.
+        let c = h.phase (sym k.phase ∙ p) in
+        record {
+          copy = c.copy;
+          upload = c.upload;
+          has =
+              k.copy
+              ∙ ap (λ b. cond b (option_map (grown_in_step m.phase) m.copy) m.copy) (still g)
+              ∙ c.has;
+          phase = kept_phase link lives unit m a t image_fewer (image_kept g) image_stays c.copy
+              c.upload c.phase;
+        })
+
+    image_turn : StepsTo (and_then (with_taken Low a) job_goes_on) link lives unit t
+    image_turn =
+        then_goes (with_taken Low a) link lives unit t (took_told Low t) refl refl
+        (k.told (subst NoneSynced (sym quiet) tt)) refl
+        (took_steady Low link lives unit a t (image_by (is_changing w.command.request) refl))
+
+-- ---- the job's reply
+
+module _ (bytes : List ℕ) (f : Frame) (read : packet_frame bytes ≡ Some f) (m : Manager)
+    (link : Link) (lives : ℕ) (unit : Option Onu) (t : Told) (h : Steady link lives unit m t)
+    (quiet : m.reports ≡ []) (w : Waiting) (waits : out_in Low m ≡ Some w)
+    (heard : Heard Low w link lives t bytes) (e : w.command.purpose ≡ purpose.Job)
+    (asking : m.job ≡ Some Asking → t.asking ≡ t.low)
+    (answered : answers w.tci w.command f ≡ true) where
+  abbrev job_low : Manager
+  job_low = record m { low = end_command w m.low }
+
+  -- a change of the job is that of its stage
+  its_command : is_changing w.command.request ≡ true → m.phase ≡ phase.InStep
+      → AtCommand m.job w.command
+  its_command g p = ⊎_elim
+      (λ (x : IsFollowed w). absurd (let z = sym e ∙ x.submitted in cc))
+      (λ (x : IsImages Low m.job w). x.at) ((h.phase p).phase.made Low w waits g)
+
+  replied : AnswersForm (form w.command.request) (response_of f)
+  replied = answers_form w.tci w.command f e answered
+
+  replied_other : is_changing w.command.request ≡ false → IsOther (response_of f)
+  replied_other g = subst (λ n. AnswersForm n (response_of f)) (other_form w.command.request g) replied
+
+  grown_copy : (b : Bool) (o : Option Copy) (copy : Copy) (p : Phase) → p ≡ phase.InStep
+      → o ≡ Some copy → cond b (option_map (grown_in_step p) o) o ≡ Some (cond b (copy_grown copy) copy)
+  grown_copy true o copy p i has =
+      ap (λ q. option_map (grown_in_step q) o) i ∙ ap (option_map (grown_in_step phase.InStep)) has
+  grown_copy false o copy p i has = has
+
+  start_turn : (o : Option Response) → response_of f ≡ o → (order : Order) (asked : ℕ)
+      (image : List ℕ) → m.job ≡ Some (StartingImage order asked image)
+      → StepsTo (and_then (with_taken Low (start_by_reply o order asked image f job_low))
+      job_goes_on) link lives unit t
+  start_turn (Some (response.Start code granted)) is order asked image j =
+      let s : Stage = StartingImage order asked image in
+      image_turn bytes f read m link lives unit t h quiet w waits heard e s j refl
+      (image_started code.0 granted order asked image job_low) (code.0 == 0)
+      (start_downs code.0 granted order asked image job_low)
+      (λ g. absurd (subst IsOther is (replied_other g)))
+      (λ g p copy has.
+      let c = subst (λ q. AtCommand q w.command) j (its_command g p) in
+      (start_downs code.0 granted order asked image job_low).copy
+      ∙ grown_copy (code.0 == 0) m.copy copy m.phase p has
+      ∙ ap (λ (d : Command). Some (followed_copy d.entity d.request
+      (Some (response.Start code granted)) copy)) (sym c)
+      ∙ ap (λ x. Some (followed_copy w.command.entity w.command.request x copy)) (sym is))
+  start_turn _ is order asked image j =
+      let s : Stage = StartingImage order asked image in
+      image_turn bytes f read m link lives unit t h quiet w waits heard e s j refl
+      (freed f job_low) false (downs_freed f s job_low j refl) (λ g. refl)
+      (λ g p copy has.
+      let c = subst (λ q. AtCommand q w.command) j (its_command g p) in
+      let one : form w.command.request ≡ 1 = ap (λ (d : Command). form d.request) c in
+      let r = subst (λ n. AnswersForm n (response_of f)) one replied in
+      absurd (let z = sym is ∙ r.2 in cc))
+
+  end_turn : (o : Option Response) → response_of f ≡ o → (order : Order) (image : List ℕ) (busy : ℕ)
+      → m.job ≡ Some (EndingImage order image busy)
+      → StepsTo (and_then (with_taken Low (end_by_reply o order image busy f job_low)) job_goes_on)
+      link lives unit t
+  end_turn (Some (response.End code)) is order image busy j =
+      let s : Stage = EndingImage order image busy in
+      image_turn bytes f read m link lives unit t h quiet w waits heard e s j refl
+      (end_answered code.0 order image busy job_low) (code.0 == 0)
+      (end_downs code.0 order image busy job_low)
+      (λ g. absurd (subst IsOther is (replied_other g)))
+      (λ g p copy has.
+      let c = subst (λ q. AtCommand q w.command) j (its_command g p) in
+      (end_downs code.0 order image busy job_low).copy
+      ∙ grown_copy (code.0 == 0) m.copy copy m.phase p has
+      ∙ ap (λ (d : Command). Some (followed_copy d.entity d.request (Some (response.End code)) copy))
+      (sym c)
+      ∙ ap (λ x. Some (followed_copy w.command.entity w.command.request x copy)) (sym is))
+  end_turn _ is order image busy j =
+      let s : Stage = EndingImage order image busy in
+      image_turn bytes f read m link lives unit t h quiet w waits heard e s j refl
+      (freed f job_low) false (downs_freed f s job_low j refl) (λ g. refl)
+      (λ g p copy has.
+      let c = subst (λ q. AtCommand q w.command) j (its_command g p) in
+      let two : form w.command.request ≡ 2 = ap (λ (d : Command). form d.request) c in
+      let r = subst (λ n. AnswersForm n (response_of f)) two replied in
+      absurd (let z = sym is ∙ r.1 in cc))
+
+  window_turn : (order : Order) (outgoing : Outgoing) (resent : ℕ)
+      → m.job ≡ Some (SendingImage order outgoing resent)
+      → StepsTo (and_then (with_taken Low
+      (window_by_reply (response_of f) order outgoing resent f job_low)) job_goes_on) link lives unit t
+  window_turn order outgoing resent j =
+      let s : Stage = SendingImage order outgoing resent in
+      image_turn bytes f read m link lives unit t h quiet w waits heard e s j refl
+      (window_by_reply (response_of f) order outgoing resent f job_low) false
+      (window_reply_downs (response_of f) order outgoing resent f job_low j) (λ g. refl)
+      (λ g p. absurd (subst (λ q. AtCommand q w.command) j (its_command g p)))
+
+  delayed_turn : (order : Order) (image : List ℕ) (busy : ℕ)
+      → m.job ≡ Some (DelayingEnd order image busy)
+      → StepsTo (and_then (with_taken Low (freed f job_low)) job_goes_on) link lives unit t
+  delayed_turn order image busy j =
+      let s : Stage = DelayingEnd order image busy in
+      image_turn bytes f read m link lives unit t h quiet w waits heard e s j refl
+      (freed f job_low) false (downs_freed f s job_low j refl) (λ g. refl)
+      (λ g p. absurd (subst (λ q. AtCommand q w.command) j (its_command g p)))
+
+  -- no download runs
+  other_at : (o : Option Stage) → m.job ≡ o → (AtCommand o w.command → ⊥)
+      → AtCommand m.job w.command → ⊥
+  other_at o j k x = k (subst (λ q. AtCommand q w.command) j x)
+
+  idle_at : (o : Option Stage) → m.job ≡ o → ((c : Command) → AtCommand o c → ⊥)
+      → (c : Command) → AtCommand m.job c → ⊥
+  idle_at o j k c x = k c (subst (λ q. AtCommand q c) j x)
+
   job_steps : (o : Option Stage) → m.job ≡ o
-      → Steps (and_then (with_taken Low (job_by o (response_of f) f freed_low)) job_goes_on) link
+      → Steps (and_then (with_taken Low (job_by o (response_of f) f job_low)) job_goes_on) link
       lives unit t
-  job_steps None j did = quiet_turn (freed f freed_low) (turns_freed f freed_low)
+  job_steps None j did =
+      quiet_turn bytes f read m link lives unit t h quiet w waits heard e asking
+      (other_at None j (λ x. x)) (freed f job_low) (turns_freed f job_low)
   job_steps (Some (Probing high low)) j did =
-      quiet_turn (freed f freed_low) (turns_freed f freed_low)
-  job_steps (Some Asking) j did = turn_steps Asking j refl (upload_by (response_of f) f freed_low)
-      (turns_upload (response_of f) f freed_low) did
+      quiet_turn bytes f read m link lives unit t h quiet w waits heard e asking
+      (other_at (Some (Probing high low)) j (λ x. x)) (freed f job_low) (turns_freed f job_low)
+  job_steps (Some Asking) j did =
+      turn_steps bytes f read m link lives unit t h quiet w waits heard e asking
+      (other_at (Some Asking) j (λ x. x)) Asking j refl (upload_by (response_of f) f job_low)
+      (turns_upload (response_of f) f job_low) did
   job_steps (Some (Gathering expected next copy)) j did =
-      turn_steps (Gathering expected next copy) j refl
-      (piece_by_reply (response_of f) expected next copy f freed_low)
-      (turns_reply (response_of f) expected next copy f freed_low) did
+      turn_steps bytes f read m link lives unit t h quiet w waits heard e asking
+      (other_at (Some (Gathering expected next copy)) j (λ x. x)) (Gathering expected next copy) j refl
+      (piece_by_reply (response_of f) expected next copy f job_low)
+      (turns_reply (response_of f) expected next copy f job_low) did
   job_steps (Some AskingAlarms) j did =
-      audit_steps (alarms_by (response_of f) f freed_low) (audit_begins (response_of f) f freed_low)
+      audit_steps bytes f read m link lives unit t h quiet w waits heard e asking
+      (other_at (Some AskingAlarms) j (λ x. x)) (alarms_by (response_of f) f job_low)
+      (idle_at (Some AskingAlarms) j (λ c x. x)) (audit_begins (response_of f) f job_low)
   job_steps (Some (GatheringRows expected next)) j did =
-      audit_steps (row_by_reply (response_of f) expected next f freed_low)
-      (audit_reply (response_of f) expected next f freed_low)
+      audit_steps bytes f read m link lives unit t h quiet w waits heard e asking
+      (other_at (Some (GatheringRows expected next)) j (λ x. x))
+      (row_by_reply (response_of f) expected next f job_low)
+      (idle_at (Some (GatheringRows expected next)) j (λ c x. x))
+      (audit_reply (response_of f) expected next f job_low
+      (idle_at (Some (GatheringRows expected next)) j (λ c x. x)))
+  job_steps (Some (StartingImage order asked image)) j did =
+      start_turn (response_of f) refl order asked image j
+  job_steps (Some (SendingImage order outgoing resent)) j did = window_turn order outgoing resent j
+  job_steps (Some (EndingImage order image busy)) j did =
+      end_turn (response_of f) refl order image busy j
+  job_steps (Some (DelayingEnd order image busy)) j did = delayed_turn order image busy j
 
 -- ---- a packet
 
@@ -556,10 +980,10 @@ module _ (bytes : List ℕ) (m : Manager) (link : Link) (lives : ℕ) (unit : Op
       → Quietly m (with_report r a)
   more r a k n = quiet_then m a (with_report r a) k (quiet_report r a (n, tt))
 
-  lost_steps : (job : Option Stage) (why : AuditReason) (a : Manager) → Quietly m a
+  lost_steps : (job : Option Stage) (why : AuditReason) (a : Manager) → a.job ≡ job → Quietly m a
       → StepsTo (sends_nothing (audit_lost job why a)) link lives unit t
-  lost_steps job why a k = aside_steps (audit_lost job why a)
-      (quiet_then m a (audit_lost job why a) k (quiet_audit job why a))
+  lost_steps job why a e k = aside_steps (audit_lost job why a)
+      (quiet_then m a (audit_lost job why a) k (quiet_audit job why a e))
 
   alarm_steps : (o : TakenAlarm) (one : EntityId) (bitmap : List ℕ) (number : ℕ) (a : Manager)
       → Quietly m a → StepsTo (alarm_as o one bitmap number a) link lives unit t
@@ -568,9 +992,9 @@ module _ (bytes : List ℕ) (m : Manager) (link : Link) (lives : ℕ) (unit : Op
   alarm_steps taken.Repeat one bitmap number a k =
       aside_steps _ (more (report.AlarmRepeat number) a k refl)
   alarm_steps (taken.Gap want have) one bitmap number a k =
-      lost_steps a.job (audit.Gap want have) _ (more (report.AlarmGap want have) a k refl)
+      lost_steps a.job (audit.Gap want have) _ refl (more (report.AlarmGap want have) a k refl)
   alarm_steps taken.Overflow one bitmap number a k =
-      lost_steps a.job audit.Overflow _ (more (report.AlarmOverflow number) a k refl)
+      lost_steps a.job audit.Overflow _ refl (more (report.AlarmOverflow number) a k refl)
   alarm_steps taken.Taken one bitmap number a k =
       noticed_steps one bitmap _ (more (report.AlarmTaken number) a k refl)
 
@@ -598,18 +1022,19 @@ module _ (bytes : List ℕ) (m : Manager) (link : Link) (lives : ℕ) (unit : Op
   -- ---- it is taken
 
   by_purpose : (l : Priority) (w : Waiting) (f : Frame) → packet_frame bytes ≡ Some f
-      → out_in l m ≡ Some w → Heard l w link lives t bytes → (p : Purpose) → w.command.purpose ≡ p
+      → out_in l m ≡ Some w → Heard l w link lives t bytes → answers w.tci w.command f ≡ true
+      → (p : Purpose) → w.command.purpose ≡ p
       → Steps (and_then (taken_as p l w.command f (with_lane l (end_command w (lane_in l m)) m))
       job_goes_on) link lives unit t
-  by_purpose l w f read e k purpose.Probe p did =
+  by_purpose l w f read e k a purpose.Probe p did =
       probe_steps bytes f read m link lives unit t h quiet l w e k p
-  by_purpose l w f read e k purpose.Submission p did =
+  by_purpose l w f read e k a purpose.Submission p did =
       submitted_steps bytes f read m link lives unit t h quiet l w e k (ap is_probe p)
-  by_purpose l w f read e k purpose.Check p did =
+  by_purpose l w f read e k a purpose.Check p did =
       checked_steps bytes f read m link lives unit t h quiet l w e k p
-  by_purpose Low w f read e k purpose.Job p did =
-      job_steps bytes f read m link lives unit t h quiet w e k p asking m.job refl did
-  by_purpose High w f read e k purpose.Job p did =
+  by_purpose Low w f read e k a purpose.Job p did =
+      job_steps bytes f read m link lives unit t h quiet w e k p asking a m.job refl did
+  by_purpose High w f read e k a purpose.Job p did =
       absurd (false≢true (sym (callers w e) ∙ ap is_job p))
 
   taken_steps : (o : Outcome) → IsTaken bytes m o → Steps o link lives unit t
@@ -619,6 +1044,7 @@ module _ (bytes : List ℕ) (m : Manager) (link : Link) (lives : ℕ) (unit : Op
       subst (λ x. Steps x link lives unit t) (sym k.is)
       (by_purpose k.lane k.waiting k.frame k.read waits
       (heard k.lane k.waiting waits (sym tci ∙ k.tci) (ap priority_of (sym tci) ∙ k.in_lane))
+      k.answered
       k.waiting.command.purpose refl)
     where
       frame_tci : IsTaken bytes m o → ℕ

@@ -68,3 +68,36 @@ grown (Some (note.Alarms rows)) lives came reply before history = record {
   on_still = λ life c database h. inr h;
   snapshots = λ life c h. inr h;
 }
+grown (Some (note.Sealed slot size check)) lives came reply before history = record {
+  was = λ life c h. h;
+  still = λ life c h. inr h;
+  now = inl (refl, refl);
+  last = λ c r h. h;
+  synced = λ c h. h;
+  put = λ c copy ne h. h;
+  on = inl (refl, refl, refl);
+  on_still = λ life c database h. inr h;
+  snapshots = λ life c h. inr h;
+}
+grown (Some (note.Committed slot)) lives came reply before history = record {
+  was = λ life c h. h;
+  still = λ life c h. inr h;
+  now = inl (refl, refl);
+  last = λ c r h. h;
+  synced = λ c h. h;
+  put = λ c copy ne h. h;
+  on = inl (refl, refl, refl);
+  on_still = λ life c database h. inr h;
+  snapshots = λ life c h. inr h;
+}
+grown (Some (note.Leaving boot)) lives came reply before history = record {
+  was = λ life c h. h;
+  still = λ life c h. inr h;
+  now = inl (refl, refl);
+  last = λ c r h. h;
+  synced = λ c h. h;
+  put = λ c copy ne h. h;
+  on = inl (refl, refl, refl);
+  on_still = λ life c database h. inr h;
+  snapshots = λ life c h. inr h;
+}

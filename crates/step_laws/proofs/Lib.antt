@@ -1,7 +1,7 @@
 pub mod Coming
 pub mod Reading
-pub mod Copying
 pub mod Sensing
+pub mod Copying
 pub mod Parts
 pub mod Milder
 pub mod Sending

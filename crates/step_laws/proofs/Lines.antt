@@ -1,6 +1,6 @@
 -- Each line of a script keeps all.
 use Rattle.std.proofs.Common.{◌≡◌, ◌≢◌, ℕ, ◌+◌, ◌<◌, ◌^◌, Bool, true, false, List, [], ◌∷◌, ◌++◌}
-use Rattle.std.proofs.Common.{length, map, Option, Some, None, ◌⊎◌, inl, inr, refl, sym, ap, subst}
+use Rattle.std.proofs.Common.{length, map, reverse, Option, Some, None, ◌⊎◌, inl, inr, refl, sym, ap, subst}
 use Rattle.std.proofs.Common.{arith}
 use Rattle.std.proofs.lemmas.Option.{same_Some}
 use Rattle.std.proofs.lemmas.Bool.{false≢true}
@@ -27,31 +27,47 @@ use Rattle.manager_spec.specs.declared.Refusal.{Refusal}
 use Rattle.manager_spec.specs.declared.Report.{Report}
 use Rattle.manager_spec.specs.declared.Report.TheVariants as report
 use Rattle.manager_spec.specs.Manager.{Manager, Outcome, Sending, Asking, with_report}
-use Rattle.manager_spec.specs.Manager.{manager_started}
+use Rattle.manager_spec.specs.Manager.{manager_started, Stage, EndingImage}
 use Rattle.manager_spec.specs.Submitting.{Submission, unless_refused, probe_refusal, after_probe}
 use Rattle.manager_spec.specs.Submitting.{submit_refusal, after_submit, check_refusal, after_check}
 use Rattle.manager_spec.specs.Submitting.{resync_refusal, after_resync, audit_refusal, after_audit}
+use Rattle.manager_spec.specs.Submitting.{image_refusal, check_given, after_image}
 use Rattle.manager_spec.specs.Steps.{packet_dropped, for_frame, after_packet, after_tick}
+use Rattle.unit_spec.specs.declared.Did.{Did}
 use Rattle.unit_spec.specs.declared.Did.TheVariants as did
 use Rattle.unit_spec.specs.declared.Note.{Note}
+use Rattle.unit_spec.specs.declared.Note.TheVariants as note
 use Rattle.unit_spec.specs.declared.Noticed.{Noticed}
 use Rattle.unit_spec.specs.declared.Noticed.TheVariants as noticed
 use Rattle.unit_spec.specs.Noticing.{Noticing, sensed_as, onu_sensed, may_alarm, onu_alarmed}
-use Rattle.unit_spec.specs.Onu.{Onu, Reception, onu_started, onu_received, onu_ticked}
+use Rattle.unit_spec.specs.Noticing.{notice_unless_leaving}
+use Rattle.omci_types.specs.declared.Boot.{Boot}
+use Rattle.omci_types.specs.declared.Boot.TheVariants.{PowerUp}
+use Rattle.slot_spec.specs.declared.Pick.{Pick}
+use Rattle.slot_spec.specs.Slots.{SlotPair}
+use Rattle.store_spec.specs.History.{StoreEntry}
+use Rattle.store_spec.specs.State.{store_started, software_of}
+use Rattle.store_spec.specs.Effects.{entries_before}
+use Rattle.unit_spec.specs.Onu.{Onu, Reception, onu_started, onu_received, onu_ticked, packet_deed}
 use Rattle.history_spec.specs.History.{WasCarried}
 use Rattle.world_spec.specs.Happenings.{Happening, PacketCame, UnitCarried, UnitNoted, CommandDrawn}
-use Rattle.world_spec.specs.Happenings.{ReplyTaken, NoticeTaken, CopyTold, TableTold, link_read}
-use Rattle.world_spec.specs.Ends.{Step, factory_software, not_enabled, preceded, sends, if_drawn}
+use Rattle.world_spec.specs.Happenings.{ReplyTaken, NoticeTaken, CopyTold, TableTold, ImageStored}
+use Rattle.world_spec.specs.Happenings.{PowerCut, ImageTold, link_read}
+use Rattle.world_spec.specs.Ends.{Step, factory_slots, not_enabled, preceded, sends, if_drawn}
+use Rattle.world_spec.specs.Ends.{image_told, download_told, stage_in, stored, unit_starts, restarts}
+use Rattle.world_spec.specs.Ends.{unit_cut_amid, cut_at, cut_in}
 use Rattle.world_spec.specs.Ends.{if_asked, goes_down, copy_told, result_told, report_told}
 use Rattle.world_spec.specs.Ends.{manager_did, submission_step, submission, manager_got}
 use Rattle.world_spec.specs.Ends.{manager_ticks, unit_deed, unit_did, unit_got, arrives_at, arrives}
 use Rattle.world_spec.specs.Ends.{noise, unit_ticks, second, cut_unit, cut_manager, start_unit}
 use Rattle.world_spec.specs.Ends.{start_manager, notice_sent, unit_notices}
-use Rattle.world_spec.specs.Nodes.{Nodes, first_nodes, delivery_of, delivery, nodes_after_step}
+use Rattle.world_spec.specs.Nodes.{Nodes, first_nodes, delivery_of, delivery, cut_of, cut_delivery}
+use Rattle.world_spec.specs.Nodes.{nodes_after_step}
 use Rattle.world_spec.specs.History.{Told, first_told, name_at, tell, tell_all}
 use Rattle.resync_laws.proofs.Reading.{noise_read, is_plain}
-use Rattle.resync_laws.proofs.Unit.{Leaves, Carries, Receives, receives, noise_drops}
-use Rattle.resync_laws.proofs.Telling.{tell_append, link_append, deeds_of, NoneSynced, none_more}
+use Rattle.resync_laws.proofs.Unit.{IsIdle, Leaves, Carries, Receives, receives, noise_drops}
+use Rattle.resync_laws.proofs.Telling.{tell_append, link_append, deeds_of, all_deeds, NoneSynced}
+use Rattle.resync_laws.proofs.Telling.{none_more}
 use Rattle.resync_laws.proofs.Serving.{history_after, unit_after}
 use Rattle.resync_laws.proofs.Lines.{Fine, StepFine, alarmed_database}
 use Rattle.resync_laws.specs.Databases.{IsWholeDatabase}
@@ -67,8 +83,9 @@ use Rattle.step_laws.proofs.Sending.{same_more}
 use Rattle.step_laws.proofs.Turning.{like_report, like_milder}
 use Rattle.step_laws.proofs.Going.{StepsTo, steps_quiet}
 use Rattle.step_laws.proofs.Turns.{probe_steps, check_steps, resync_steps, audit_steps}
-use Rattle.step_laws.proofs.Turns.{submit_steps, tick_steps}
-use Rattle.step_laws.proofs.Hearing.{IsFenced, IsHeard, packet_steps}
+use Rattle.step_laws.proofs.Turns.{image_steps, submit_steps, tick_steps}
+use Rattle.step_laws.proofs.Taking.{stored_steady}
+use Rattle.step_laws.proofs.Hearing.{IsFenced, IsHeard, SomeDid, packet_steps}
 
 -- all of the nodes
 abbrev pub Sures : Nodes → Told → Type 0
@@ -120,6 +137,10 @@ kept_tell lives unit (ReplyTaken lane) t e k =
 kept_tell lives unit (TableTold table) t e k =
     record { has = k.has; past = k.past; snapshots = k.snapshots }
 kept_tell lives unit (CopyTold copy) t e k =
+    record { has = k.has; past = k.past; snapshots = k.snapshots }
+kept_tell lives unit (ImageStored entry) t e k =
+    record { has = k.has; past = k.past; snapshots = k.snapshots }
+kept_tell lives unit (ImageTold slot image) t e k =
     record { has = k.has; past = k.past; snapshots = k.snapshots }
 kept_tell lives unit (CommandDrawn Low) t e k = k
 kept_tell lives unit (CommandDrawn High) t e k = k
@@ -180,10 +201,27 @@ aside_sends : (ss : List Sending) → AllAside (flat_map sends ss)
 aside_sends [] = tt
 aside_sends (s ∷ ss) = aside_append (sends s) (flat_map sends ss) (aside_sending s) (aside_sends ss)
 
-kept_deeds : (lives : ℕ) (unit : Option Onu) (o : Outcome) (t : Told) → Kept lives unit t.history
-    → Kept lives unit (tell_all (deeds_of o) t).history
-kept_deeds lives unit o t k =
-    kept_all lives unit (deeds_of o) t
+aside_image : (before : Option Stage) (slot : ℕ) → AllAside (image_told before slot)
+aside_image (Some (EndingImage order image busy)) slot = (refl, tt)
+aside_image None slot = tt
+aside_image (Some _) slot = tt
+
+aside_download : (before : Option Stage) (r : Report) → AllAside (download_told before r)
+aside_download before (report.ImageDone slot) = aside_image before slot
+aside_download before _ = tt
+
+aside_downloads : (before : Option Stage) (rs : List Report)
+    → AllAside (flat_map (download_told before) rs)
+aside_downloads before [] = tt
+aside_downloads before (r ∷ rs) =
+    aside_append (download_told before r) (flat_map (download_told before) rs)
+    (aside_download before r) (aside_downloads before rs)
+
+kept_deeds : (before : Option Stage) (lives : ℕ) (unit : Option Onu) (o : Outcome) (t : Told)
+    → Kept lives unit t.history → Kept lives unit (tell_all (all_deeds before o) t).history
+kept_deeds before lives unit o t k =
+    kept_all lives unit (all_deeds before o) t
+    (aside_append (deeds_of o) (flat_map (download_told before) o.manager.reports)
     (aside_append (map ReplyTaken o.taken ++ map NoticeTaken o.noticed ++ flat_map
     (report_told o.manager) o.manager.reports) (flat_map sends o.sendings)
     (aside_append (map ReplyTaken o.taken ++ map NoticeTaken o.noticed)
@@ -191,7 +229,7 @@ kept_deeds lives unit o t k =
     (aside_append (map ReplyTaken o.taken) (map NoticeTaken o.noticed) (aside_taken o.taken)
     (aside_noticed o.noticed))
     (aside_reports o.manager.reports o.manager))
-    (aside_sends o.sendings)) k
+    (aside_sends o.sendings)) (aside_downloads before o.manager.reports)) k
 
 -- ---- a manager that has just started
 
@@ -234,9 +272,10 @@ started_steady link lives unit low high t a b same known none = record {
 did_sure : (o : Outcome) (n : Nodes) (t : Told) → Kept n.ends.lives n.ends.unit t.history
     → StepsTo o n.link n.ends.lives n.ends.unit t → StepSure (manager_did o n.ends) n t
 did_sure o n t k d =
-    sure_some (link_read (deeds_of o) n.link) n.ends.lives n.ends.unit
-    (record o.manager { reports = [] }) (tell_all (deeds_of o) t) d
-    (kept_deeds n.ends.lives n.ends.unit o t k)
+    let before = stage_in n.ends.manager in
+    sure_some (link_read (all_deeds before o) n.link) n.ends.lives n.ends.unit
+    (record o.manager { reports = [] }) (tell_all (all_deeds before o) t) (d before)
+    (kept_deeds before n.ends.lives n.ends.unit o t k)
 
 submitted : (r : Option Refusal) (o : Outcome) (m : Manager) (n : Nodes) (t : Told) → Sures n t
     → (r ≡ None → StepsTo o n.link n.ends.lives n.ends.unit t)
@@ -253,6 +292,26 @@ asked_sure : (call : Manager → Submission) (o : Option Manager) (n : Nodes) (t
     → StepSure (submission call o n.ends) n t
 asked_sure call None n t f e d = not_enabled_sure n t f
 asked_sure call (Some m) n t f e d = d m e
+
+-- the unit's next life
+pub unit_starts_sure : (boot : Boot) (slots : SlotPair) (n : Nodes) (t : Told) → Sures n t
+    → StepSure (unit_starts boot slots n.ends) n t
+unfolding onu_started first
+unit_starts_sure boot slots n t f =
+    let started : Onu = onu_started boot n.ends.room slots in
+    let m = software_of (store_started boot slots) in
+    record {
+      steady = λ x e.
+          life_steady n.link n.ends.lives (n.ends.lives + 1) n.ends.unit (Some started) x t
+          (λ command was. let lt = f.kept.past (n.ends.lives + 1) command was in
+          omega (arith, lt)) (f.steady x e);
+      kept = record {
+        has = λ v on. subst (λ (x : Onu). has_unit_entities x.database ≡ true)
+            (same_Some started v on) (first_has (image_values 0 m) (image_values 1 m));
+        past = λ life command was. let lt = f.kept.past life command was in omega (arith, lt);
+        snapshots = f.kept.snapshots;
+      };
+    }
 
 module _ (n : Nodes) (t : Told) (f : Sures n t) (g : Fine n t) where
   pub probe_sure : (lane : Priority) → StepSure
@@ -295,6 +354,15 @@ module _ (n : Nodes) (t : Told) (f : Sures n t) (g : Fine n t) where
       (λ m e. submitted (audit_refusal m) _ m n t f
       (λ q. audit_steps m n.link n.ends.lives n.ends.unit t (f.steady m e) (g.good.reports m e) q))
 
+  pub image_sure : (slot asked : ℕ) (check : Option ℕ) (image : List ℕ)
+      → StepSure (submission (after_image slot asked check image) n.ends.manager n.ends) n t
+  unfolding after_image
+  image_sure slot asked check image =
+      asked_sure (after_image slot asked check image) n.ends.manager n t f refl
+      (λ m e. submitted (image_refusal m) _ m n t f
+      (λ q. image_steps m n.link n.ends.lives n.ends.unit t (f.steady m e) (g.good.reports m e)
+      (record { slot = slot; check = check_given check image }) asked image q))
+
   -- ---- a second
 
   manager_ticked : (o : Option Manager) → n.ends.manager ≡ o → StepSure (manager_ticks o n.ends) n t
@@ -324,23 +392,8 @@ module _ (n : Nodes) (t : Told) (f : Sures n t) (g : Fine n t) where
   cut_manager_sure (Some m) = record { steady = λ x e. absurd (cc); kept = f.kept }
 
   pub start_unit_sure : (o : Option Onu) → StepSure (start_unit o n.ends) n t
-  unfolding onu_started first
   start_unit_sure (Some u) = not_enabled_sure n t f
-  start_unit_sure None =
-      let started : Onu = onu_started n.ends.software in
-      record {
-        steady = λ m e.
-            life_steady n.link n.ends.lives (n.ends.lives + 1) n.ends.unit (Some started) m t
-            (λ command was. let lt = f.kept.past (n.ends.lives + 1) command was in
-            omega (arith, lt)) (f.steady m e);
-        kept = record {
-          has = λ v on. subst (λ (x : Onu). has_unit_entities x.database ≡ true)
-              (same_Some started v on) (first_has (image_values 0 n.ends.software)
-              (image_values 1 n.ends.software));
-          past = λ life command was. let lt = f.kept.past life command was in omega (arith, lt);
-          snapshots = f.kept.snapshots;
-        };
-      }
+  start_unit_sure None = unit_starts_sure PowerUp n.ends.slots n t f
 
   pub start_manager_sure : (low high : ℕ) (o : Option Manager) → IsNumber low → IsNumber high
       → length n.link.packets ≡ length t.names
@@ -427,18 +480,25 @@ sensed_like sensed.NotAllowed one number value db u k = like_database u.database
 sensed_like sensed.Same one number value db u k = like_database u.database u.database refl
 sensed_like sensed.Changed one number value db u k = k
 
+-- a unit that leaves notices nothing
+unless_like : (leaving : Option Boot) (n : Noticing) (u : Onu) → IsLike u.database n.unit.database
+    → IsLike u.database (notice_unless_leaving leaving n u).unit.database
+unless_like None n u k = k
+unless_like (Some boot) n u k = like_database u.database u.database refl
+
 -- the unit measures a value
 pub sense_sure : (one : EntityId) (number : ℕ) (value : List ℕ) (n : Nodes) (t : Told) → Sures n t
     → StepSure (unit_notices (onu_sensed one number value) n.ends.unit n.ends) n t
 unfolding onu_sensed
 sense_sure one number value n t f =
     noticing_sure (onu_sensed one number value) n.ends.unit n t f refl
-    (λ u. sensed_like (sense_outcome one number value u.database).0 one number value
+    (λ u. unless_like u.leaving _ u
+    (sensed_like (sense_outcome one number value u.database).0 one number value
     (sense_outcome one number value u.database).1 u
     (record {
       has = λ h. keeps_sense one number value u.database h;
       copied = λ copy h. sense_copied one number value u.database copy h;
-    }))
+    })))
 
 -- or notices alarms
 pub alarm_sure : (one : EntityId) (bitmap : List ℕ) (n : Nodes) (t : Told) → Sures n t
@@ -446,18 +506,26 @@ pub alarm_sure : (one : EntityId) (bitmap : List ℕ) (n : Nodes) (t : Told) →
 unfolding onu_alarmed
 alarm_sure one bitmap n t f =
     noticing_sure (onu_alarmed one bitmap) n.ends.unit n t f refl
-    (λ u. like_database u.database _ (sym
-    (alarmed_database (may_alarm one u.database) one bitmap u)))
+    (λ u. unless_like u.leaving _ u (like_database u.database _ (sym
+    (alarmed_database (may_alarm one u.database) one bitmap u))))
 
 -- ---- a second
 
-unit_ticked : (n : Nodes) (t : Told) (o : Option Onu) → Sures n t → n.ends.unit ≡ o
-    → StepSure (unit_ticks o n.ends) n t
+unit_older : (n : Nodes) (t : Told) (u : Onu) → Sures n t → n.ends.unit ≡ Some u
+    → StepSure (restarts None u n.ends) n t
 unfolding onu_ticked
-unit_ticked n t None f e = record { steady = f.steady; kept = f.kept }
-unit_ticked n t (Some u) f e =
+unit_older n t u f e =
     like_sure n t (Some (onu_ticked u)) f
     (like_unit n t u (onu_ticked u) e (like_database u.database u.database refl))
+
+unit_ticked : (n : Nodes) (t : Told) (o : Option Onu) → Sures n t → n.ends.unit ≡ o
+    → StepSure (unit_ticks o n.ends) n t
+unit_ticked n t None f e = record { steady = f.steady; kept = f.kept }
+unit_ticked n t (Some u) f e = go u.leaving
+  where
+    go : (leaving : Option Boot) → StepSure (restarts leaving u n.ends) n t
+    go None = unit_older n t u f e
+    go (Some boot) = unit_starts_sure boot u.store.slots n t f
 
 pub second_sure : (n : Nodes) (t : Told) → Sures n t → Fine n t → StepSure (second n.ends) n t
 unfolding second
@@ -480,10 +548,23 @@ noise_sure Up bytes n t f g k = manager_noise n t f g bytes n.ends.manager refl 
 pub record Linked (n : Nodes) (t : Told) : Type 0 where
   pub fresh : (number : ℕ) (s : Sent) (u : Onu) (note : Option Note) → n.ends.unit ≡ Some u
       → allowed number n.link ≡ Some s → s.direction ≡ Down
-      → (onu_received s.bytes u).did ≡ did.Carried note
+      → (onu_received false s.bytes u).did ≡ did.Carried note
       → WasCarried n.ends.lives (name_at number t.names) t.history → ⊥
   pub heard : (number : ℕ) (s : Sent) (m : Manager) → n.ends.manager ≡ Some m
       → allowed number n.link ≡ Some s → s.direction ≡ Up → IsHeard n.link n.ends.lives m t s.bytes
+
+-- what the store has for the history
+entries_sure : (entries : List StoreEntry) (link : Link) (lives : ℕ) (unit : Option Onu)
+    (manager : Option Manager) (t : Told) → Sure link lives unit manager t
+    → Sure (link_read (map ImageStored entries) link) lives unit manager
+    (tell_all (map ImageStored entries) t)
+entries_sure [] link lives unit manager t h = h
+entries_sure (entry ∷ rest) link lives unit manager t h =
+    entries_sure rest link lives unit manager (tell (ImageStored entry) t)
+    (record {
+      steady = λ m e. stored_steady entry link lives unit m t (h.steady m e);
+      kept = kept_tell lives unit (ImageStored entry) t refl h.kept;
+    })
 
 module _ (number : ℕ) (s : Sent) (n : Nodes) (t : Told) (f : Sures n t) (g : Fine n t)
     (k : Linked n t) (may : allowed number n.link ≡ Some s) where
@@ -521,28 +602,63 @@ module _ (number : ℕ) (s : Sent) (n : Nodes) (t : Told) (f : Sures n t) (g : F
       (Some r.unit) n.ends.manager
       (tell_all (PacketCame number s ∷ unit_deed r.did r.reply u lives) t)
 
+  -- the entries of its store are told after that
+  abbrev ServedWhole : Onu → Reception → Type 0
+  ServedWhole u r =
+      let hs = PacketCame number s ∷ unit_deed r.did r.reply u lives ++ stored r.stored in
+      Sure (link_read hs n.link) lives (Some r.unit) n.ends.manager (tell_all hs t)
+
+  served_whole : (u : Onu) (r : Reception) → Served u r → ServedWhole u r
+  served_whole u r h =
+      let hs = PacketCame number s ∷ unit_deed r.did r.reply u lives in
+      let ks = stored r.stored in
+      subst (λ l. Sure l lives (Some r.unit) n.ends.manager (tell_all (hs ++ ks) t))
+      (sym (link_append hs ks n.link))
+      (subst (λ v. Sure (link_read ks (link_read hs n.link)) lives (Some r.unit) n.ends.manager v)
+      (sym (tell_append hs ks t))
+      (entries_sure (reverse r.stored) (link_read hs n.link) lives (Some r.unit) n.ends.manager
+      (tell_all hs t) h))
+
   leaves_sure : (u : Onu) → Sure n.link lives (Some u) n.ends.manager t → (r : Reception)
       → Leaves u r → Served u r
   leaves_sure u h r q = subst (λ x. Sure
       (link_read (PacketCame number s ∷ unit_deed r.did r.reply u lives) n.link) lives
       (Some x) n.ends.manager (tell_all (PacketCame number s ∷ unit_deed r.did r.reply u lives) t))
-      (sym q.unit) (go q.did)
+      (sym q.unit) (go r.did q.did)
     where
-      go : (r.did ≡ did.Dropped) ⊎ (r.did ≡ did.Kept)
-          → Sure (link_read (PacketCame number s ∷ unit_deed r.did r.reply u lives) n.link) lives
-          (Some u) n.ends.manager (tell_all
-          (PacketCame number s ∷ unit_deed r.did r.reply u lives) t)
-      go (inl e) = subst (λ d. Sure (link_read
-          (PacketCame number s ∷ unit_deed d r.reply u lives) n.link) lives (Some u) n.ends.manager
-          (tell_all (PacketCame number s ∷ unit_deed d r.reply u lives) t)) (sym e)
-          (record { steady = λ m x. arrived (Some u) m (h.steady m x); kept = h.kept })
-      go (inr e) = subst (λ d. Sure (link_read
-          (PacketCame number s ∷ unit_deed d r.reply u lives) n.link) lives (Some u) n.ends.manager
-          (tell_all (PacketCame number s ∷ unit_deed d r.reply u lives) t)) (sym e)
-          (record { steady = λ m x. answered (Some u) m r.reply (h.steady m x); kept = h.kept })
+      held : Onu
+      held = record u { store = q.store }
+
+      still : IsLikeUnit (Some u) (Some held)
+      still = record {
+        from = λ v on. (
+          u,
+          refl,
+          subst (λ (x : Onu). IsLike u.database x.database) (same_Some held v on)
+              (like_database u.database u.database refl),
+        );
+      }
+
+      held_steady : (m : Manager) → n.ends.manager ≡ Some m → Steady n.link lives (Some held) m t
+      held_steady m x = unit_steady n.link lives (Some u) (Some held) m t still (h.steady m x)
+
+      held_kept : Kept lives (Some held) t.history
+      held_kept = unit_kept lives (Some u) (Some held) t.history still h.kept
+
+      go : (d : Did) → IsIdle d
+          → Sure (link_read (PacketCame number s ∷ unit_deed d r.reply u lives) n.link) lives
+          (Some held) n.ends.manager (tell_all
+          (PacketCame number s ∷ unit_deed d r.reply u lives) t)
+      go did.Dropped i =
+          record { steady = λ m x. arrived (Some held) m (held_steady m x); kept = held_kept }
+      go did.Held i =
+          record { steady = λ m x. arrived (Some held) m (held_steady m x); kept = held_kept }
+      go did.Kept i =
+          record { steady = λ m x. answered (Some held) m r.reply (held_steady m x); kept = held_kept }
+      go (did.Carried o) i = absurd i
 
   module _ (u : Onu) (h : Sure n.link lives (Some u) n.ends.manager t) (way : s.direction ≡ Down)
-      (c : Carries s.bytes u (onu_received s.bytes u)) (fresh : WasCarried lives came t.history → ⊥)
+      (c : Carries s.bytes u (onu_received false s.bytes u)) (fresh : WasCarried lives came t.history → ⊥)
       (whole : IsWholeDatabase u.database) where
     abbrev CarriedWith : Option Note → Type 0
     CarriedWith o =
@@ -574,26 +690,37 @@ module _ (number : ℕ) (s : Sent) (n : Nodes) (t : Told) (f : Sures n t) (g : F
 
     carried_with : (o : Option Note) → c.answer.note ≡ o → CarriedWith o
     carried_with None e = subst Plainly e plainly_carried
-    carried_with (Some note) e = subst Plainly e plainly_carried
+    carried_with (Some (note.Snapshot entities counter)) e = subst Plainly e plainly_carried
+    carried_with (Some (note.Alarms rows)) e = subst Plainly e plainly_carried
+    carried_with (Some (note.Sealed slot size check)) e = subst Plainly e plainly_carried
+    carried_with (Some (note.Committed slot)) e = subst Plainly e plainly_carried
+    carried_with (Some (note.Leaving boot)) e = subst Plainly e plainly_carried
 
-    carries_sure : Served u (onu_received s.bytes u)
+    carries_sure : Served u (onu_received false s.bytes u)
     carries_sure = subst (Served u) (sym c.is) (carried_with c.answer.note refl)
 
   unit_arrives : (o : Option Onu) → n.ends.unit ≡ o → s.direction ≡ Down
       → StepSure (unit_got (PacketCame number s ∷ []) s.bytes o n.ends) n t
   unit_arrives None e way = not_enabled_sure n t f
-  unit_arrives (Some u) e way = go (receives s.bytes u)
+  unit_arrives (Some u) e way =
+      served_whole u (onu_received false s.bytes u) (go (receives s.bytes u))
     where
       h : Sure n.link n.ends.lives (Some u) n.ends.manager t
       h = subst (λ x. Sure n.link n.ends.lives x n.ends.manager t) e f
 
-      go : Receives s.bytes u (onu_received s.bytes u) → Served u (onu_received s.bytes u)
-      go (inl q) = leaves_sure u h (onu_received s.bytes u) q
+      go : Receives s.bytes u (onu_received false s.bytes u) → Served u (onu_received false s.bytes u)
+      go (inl q) = leaves_sure u h (onu_received false s.bytes u) q
       go (inr c) = carries_sure u h way c
           (k.fresh number s u c.answer.note e may way (ap (λ (r : Reception). r.did) c.is))
           (g.good.whole u e)
 
   -- ---- to the manager
+
+  did_of : (m : Manager) → n.ends.manager ≡ Some m
+      → StepFine (manager_got (PacketCame number s ∷ []) s.bytes (Some m) n.ends) n t
+      → SomeDid (after_packet s.bytes m) (delivered_on number s n.link) lives n.ends.unit
+      (record t { came = came; packet = s.bytes })
+  did_of m e after = record { before = stage_in n.ends.manager; did = after.good }
 
   asking_own : (m : Manager) → n.ends.manager ≡ Some m → m.job ≡ Some Asking → t.asking ≡ t.low
   asking_own m e j = (g.good.job m e Asking j).own
@@ -605,22 +732,55 @@ module _ (number : ℕ) (s : Sent) (n : Nodes) (t : Told) (f : Sures n t) (g : F
   manager_arrives (Some m) e way after =
       let u : Told = record t { came = came; packet = s.bytes } in
       let link : Link = delivered_on number s n.link in
-      sure_some (link_read (deeds_of (after_packet s.bytes m)) link) lives n.ends.unit
+      let before = stage_in n.ends.manager in
+      sure_some (link_read (all_deeds before (after_packet s.bytes m)) link) lives n.ends.unit
       (record (after_packet s.bytes m).manager { reports = [] })
-      (tell_all (deeds_of (after_packet s.bytes m)) u)
+      (tell_all (all_deeds before (after_packet s.bytes m)) u)
       (packet_steps s.bytes m link lives n.ends.unit u (arrived n.ends.unit m (f.steady m e))
       (g.good.reports m e)
       (λ l w waits same lane. let x = k.heard number s m e may way l w waits same lane in
       record { own = x.own; fence = past (IsFenced l (last_in l t)) x.fence })
       (λ w waits. ((g.good.lanes m e).high_out w waits).callers)
-      (asking_own m e) after.good)
-      (kept_deeds lives n.ends.unit (after_packet s.bytes m) u f.kept)
+      (asking_own m e) (did_of m e after) before)
+      (kept_deeds before lives n.ends.unit (after_packet s.bytes m) u f.kept)
 
   arrives_by : (d : Direction) → s.direction ≡ d
       → StepFine (arrives_at d (PacketCame number s ∷ []) s.bytes n.ends) n t
       → StepSure (arrives_at d (PacketCame number s ∷ []) s.bytes n.ends) n t
   arrives_by Down way after = unit_arrives n.ends.unit refl way
   arrives_by Up way after = manager_arrives n.ends.manager refl way after
+
+  -- ---- the power goes amid it
+
+  off_sure : Sure (delivered_on number s n.link) lives None n.ends.manager
+      (record t { came = came; packet = s.bytes })
+  off_sure =
+      let none : IsLikeUnit n.ends.unit None = record { from = λ v on. absurd (cc) } in
+      let h = like_sure n t None f none in
+      record { steady = λ m e. arrived None m (h.steady m e); kept = h.kept }
+
+  unit_cut_sure : (call : ℕ) (pick : Pick) (o : Option Onu)
+      → StepSure (unit_cut_amid call pick (PacketCame number s ∷ []) s.bytes o n.ends) n t
+  unit_cut_sure call pick None = not_enabled_sure n t f
+  unit_cut_sure call pick (Some u) =
+      let c : Told = record t { came = came; packet = s.bytes } in
+      let l : Link = delivered_on number s n.link in
+      let es = entries_before (packet_deed s.bytes u) in
+      let ks = stored es in
+      subst (λ x. Sure x lives None n.ends.manager (tell_all (ks ++ PowerCut ∷ []) c))
+      (sym (link_append ks (PowerCut ∷ []) l))
+      (subst (λ v. Sure (link_read ks l) lives None n.ends.manager v)
+      (sym (tell_append ks (PowerCut ∷ []) c))
+      (entries_sure (reverse es) l lives None n.ends.manager c off_sure))
+
+  cut_by : (call : ℕ) (pick : Pick) (d : Direction)
+      → StepSure (cut_at call pick d (PacketCame number s ∷ []) s.bytes n.ends) n t
+  cut_by call pick Down = unit_cut_sure call pick n.ends.unit
+  cut_by call pick Up = not_enabled_sure n t f
+
+  cut_in_sure : (call : ℕ) (pick : Pick) → StepSure (cut_in call pick number s n.ends) n t
+  unfolding cut_in
+  cut_in_sure call pick = cut_by call pick s.direction
 
   arrives_sure : StepFine (arrives number s n.ends) n t → StepSure (arrives number s n.ends) n t
   unfolding arrives
@@ -631,6 +791,19 @@ delivery_by : (o : Option Sent) (number : ℕ) (n : Nodes) (t : Told) → Sures 
     → StepFine (delivery_of o number n.ends) n t → StepSure (delivery_of o number n.ends) n t
 delivery_by None number n t f g k may after = not_enabled_sure n t f
 delivery_by (Some s) number n t f g k may after = arrives_sure number s n t f g k may after
+
+cut_of_sure : (call : ℕ) (pick : Pick) (o : Option Sent) (number : ℕ) (n : Nodes) (t : Told)
+    → Sures n t → Fine n t → Linked n t → allowed number n.link ≡ o
+    → StepSure (cut_of call pick o number n.ends) n t
+cut_of_sure call pick None number n t f g k may = not_enabled_sure n t f
+cut_of_sure call pick (Some s) number n t f g k may = cut_in_sure number s n t f g k may call pick
+
+-- the power of the unit goes amid a delivery
+pub cut_delivery_sure : (call : ℕ) (pick : Pick) (number : ℕ) (n : Nodes) (t : Told) → Sures n t
+    → Fine n t → Linked n t → StepSure (cut_delivery call pick number n) n t
+unfolding cut_delivery
+cut_delivery_sure call pick number n t f g k =
+    cut_of_sure call pick (allowed number n.link) number n t f g k refl
 
 pub delivery_sure : (number : ℕ) (n : Nodes) (t : Told) → Sures n t → Fine n t → Linked n t
     → StepFine (delivery number n) n t
@@ -644,15 +817,15 @@ delivery_sure number n t f g k after =
 pub first_sure : (h : Header) → IsNumber h.low → IsNumber h.high → Sures (first_nodes h) first_told
 unfolding onu_started first allowed
 first_sure h a b =
-    sure_some empty_link 1 (Some (onu_started (factory_software h.factory)))
-    (manager_started h.low h.high) first_told
-    (started_steady empty_link 1 (Some (onu_started (factory_software h.factory))) h.low h.high
+    let slots : SlotPair = factory_slots h.factory in
+    let first : Onu = onu_started PowerUp h.room slots in
+    let m = software_of (store_started PowerUp slots) in
+    sure_some empty_link 1 (Some first) (manager_started h.low h.high) first_told
+    (started_steady empty_link 1 (Some first) h.low h.high
     first_told a b refl (λ life command was. absurd was) (λ P i s may way. absurd (cc)))
     (record {
-      has = λ v on. subst (λ (x : Onu). has_unit_entities x.database ≡ true)
-          (same_Some (onu_started (factory_software h.factory)) v on)
-          (first_has (image_values 0 (factory_software h.factory))
-          (image_values 1 (factory_software h.factory)));
+      has = λ v on. subst (λ (x : Onu). has_unit_entities x.database ≡ true) (same_Some first v on)
+          (first_has (image_values 0 m) (image_values 1 m));
       past = λ life command was. absurd was;
       snapshots = λ life command was. absurd was;
     })

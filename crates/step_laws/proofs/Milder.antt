@@ -1,15 +1,15 @@
 -- A step of the manager after which no more waits than before keeps all, as long as it loses no
 -- change
 -- while it is in step.
-use Rattle.std.proofs.Common.{◌≡◌, ◌≢◌, ℕ, ◌<◌, ◌≤◌, ◌^◌, true, false, List, Option, Some, inl, inr}
+use Rattle.std.proofs.Common.{◌≡◌, ◌≢◌, ℕ, ◌<◌, ◌≤◌, ◌^◌, true, false, List, [], Option, Some, ◌⊎◌, inl, inr}
+use Rattle.std.specs.List.{Contains}
 use Rattle.std.proofs.Common.{⊎_elim, refl, sym, ap, subst, ◌∙◌}
 use Rattle.omci_types.specs.declared.Priority.{Priority}
 use Rattle.omci_types.specs.declared.Priority.TheVariants.{Low, High}
 use Rattle.tci_spec.specs.Tci.{priority_of}
-use Rattle.frame_spec.specs.Baseline.{spelling}
 use Rattle.upload_spec.specs.Pieces.{Copy}
 use Rattle.link_spec.specs.Link.{Link, lane_of}
-use Rattle.lane_spec.specs.Command.{Command, command_frame, is_changing}
+use Rattle.lane_spec.specs.Command.{Command, command_packets, is_changing}
 use Rattle.lane_spec.specs.Lane.{Waiting}
 use Rattle.manager_spec.specs.declared.Phase.TheVariants as phase
 use Rattle.manager_spec.specs.Manager.{Stage, Manager}
@@ -26,7 +26,8 @@ use Rattle.resync_laws.proofs.Reading.{is_plain}
 use Rattle.step_laws.proofs.Copying.{followed_copy}
 use Rattle.step_laws.proofs.Reading.{IsExact}
 use Rattle.step_laws.proofs.Parts.{lane_at, out_in, last_in, IsNewest, LaneOk, IsPut, IsQuiet}
-use Rattle.step_laws.proofs.Parts.{AtStep, IsFollowed, IsOnTheWay, InPhase, HasCopy, Steady}
+use Rattle.step_laws.proofs.Parts.{AtStep, IsFollowed, AtCommand, IsImages, IsOnTheWay, InPhase}
+use Rattle.step_laws.proofs.Parts.{HasCopy, Steady}
 
 -- the same command waited before, under the same TCI
 pub record Waited (lane : Priority) (m : Manager) (w : Waiting) : Type 0 where
@@ -42,6 +43,10 @@ pub record Fewer (m a : Manager) : Type 0 where
   pub next : (lane : Priority) → (lane_at lane a.low a.high).next ≡ (lane_at lane m.low m.high).next
   pub out : (lane : Priority) (w : Waiting) → out_in lane a ≡ Some w → Waited lane m w
 
+-- a job that waited for the reply to a start or an end of its download runs on
+abbrev pub KeepsCommand : Option Stage → Option Stage → Type 0
+KeepsCommand before after = (c : Command) → AtCommand before c → AtCommand after c
+
 -- besides, no other job runs, and a manager that is still in step has the same copy, and lost no
 -- change
 pub record Milder (m a : Manager) : Type 0 where
@@ -51,6 +56,7 @@ pub record Milder (m a : Manager) : Type 0 where
       → is_changing w.command.request ≡ true → Waited lane a w
   pub was : a.phase ≡ phase.InStep → m.phase ≡ phase.InStep
   pub copy : a.phase ≡ phase.InStep → a.copy ≡ m.copy
+  pub command : a.phase ≡ phase.InStep → KeepsCommand m.job a.job
 
 module _ (link : Link) (lives : ℕ) (unit : Option Onu) (m a : Manager) (t : Told)
     (f : Fewer m a) where
@@ -60,12 +66,12 @@ module _ (link : Link) (lives : ℕ) (unit : Option Onu) (m a : Manager) (t : To
   still_changing lane w e c = ap (λ (x : Command). is_changing x.request) (f.out lane w e).command
       ∙ c
 
-  same_packet : (lane : Priority) (w : Waiting) (e : out_in lane a ≡ Some w)
-      → spelling (command_frame (f.out lane w e).waiting.tci
-      (f.out lane w e).waiting.command) ≡ spelling (command_frame w.tci w.command)
-  same_packet lane w e =
-      ap (λ n. spelling (command_frame n (f.out lane w e).waiting.command)) (f.out lane w e).tci
-      ∙ ap (λ c. spelling (command_frame w.tci c)) (f.out lane w e).command
+  same_packets : (lane : Priority) (w : Waiting) (e : out_in lane a ≡ Some w)
+      → command_packets (f.out lane w e).waiting.tci (f.out lane w e).waiting.command
+      ≡ command_packets w.tci w.command
+  same_packets lane w e =
+      ap (λ n. command_packets n (f.out lane w e).waiting.command) (f.out lane w e).tci
+      ∙ ap (λ c. command_packets w.tci c) (f.out lane w e).command
 
   pub fewer_lane : (lane : Priority) → LaneOk lane (lane_at lane m.low m.high) link t.names t.drawn
       (last_in lane t)
@@ -84,8 +90,8 @@ module _ (link : Link) (lives : ℕ) (unit : Option Onu) (m a : Manager) (t : To
         (IsNewest lane (last_in lane t) (out_in lane a)) link t.names
         (λ s name k. (
           k.0,
-          λ w e same. k.1 (f.out lane w e).waiting (f.out lane w e).waits same
-              ∙ same_packet lane w e,
+          λ w e same. subst (λ ps. Contains ps s.bytes) (same_packets lane w e)
+              (k.1 (f.out lane w e).waiting (f.out lane w e).waits same),
         )) h.newest;
   }
 
@@ -94,8 +100,9 @@ module _ (link : Link) (lives : ℕ) (unit : Option Onu) (m a : Manager) (t : To
   fewer_put P upload h = record {
     early = h.early;
     packets = h.packets;
-    out = λ lane w e same. subst P (same_packet lane w e)
-        (h.out lane (f.out lane w e).waiting (f.out lane w e).waits same);
+    out = λ lane w e same bytes among.
+        h.out lane (f.out lane w e).waiting (f.out lane w e).waits same bytes
+        (subst (λ ps. Contains ps bytes) (sym (same_packets lane w e)) among);
   }
 
   pub fewer_quiet : (s : Stage) → IsQuiet s m → IsQuiet s a
@@ -124,20 +131,36 @@ module _ (link : Link) (lives : ℕ) (unit : Option Onu) (m a : Manager) (t : To
   fewer_one h w v e g b c = h (f.out Low w e).waiting (f.out High v g).waiting (f.out Low w e).waits
       (f.out High v g).waits (still_changing Low w e b) (still_changing High v g c)
 
-  pub fewer_made : ((lane : Priority) (w : Waiting) → out_in lane m ≡ Some w
-      → is_changing w.command.request ≡ true → IsFollowed w)
-      → (lane : Priority) (w : Waiting) → out_in lane a ≡ Some w
-      → is_changing w.command.request ≡ true → IsFollowed w
-  fewer_made h lane w e c =
+  followed_still : (lane : Priority) (w : Waiting) (e : out_in lane a ≡ Some w)
+      → IsFollowed (f.out lane w e).waiting → IsFollowed w
+  followed_still lane w e k =
       let x = f.out lane w e in
-      let k = h lane x.waiting x.waits (still_changing lane w e c) in
       record {
         submitted = ap (λ (y : Command). y.purpose) (sym x.command) ∙ k.submitted;
         plainly = subst (λ (y : Command). is_plain y.request ≡ true) x.command k.plainly;
         stays = subst (λ (y : Command). leaves_copy y.request ≡ false) x.command k.stays;
         exact = subst (λ (y : Command). IsExact w.tci y) x.command
             (subst (λ n. IsExact n x.waiting.command) x.tci k.exact);
+        single = subst (λ (y : Command). y.earlier ≡ []) x.command k.single;
       }
+
+  pub fewer_made : ((lane : Priority) (w : Waiting) → out_in lane m ≡ Some w
+      → is_changing w.command.request ≡ true → IsFollowed w ⊎ IsImages lane m.job w)
+      → ((w : Waiting) → out_in Low a ≡ Some w → AtCommand m.job w.command
+      → AtCommand a.job w.command)
+      → (lane : Priority) (w : Waiting) → out_in lane a ≡ Some w
+      → is_changing w.command.request ≡ true → IsFollowed w ⊎ IsImages lane a.job w
+  fewer_made h stays lane w e c =
+      let x = f.out lane w e in
+      ⊎_elim
+      (λ (k : IsFollowed x.waiting). inl (followed_still lane w e k))
+      (λ (k : IsImages lane m.job x.waiting).
+      inr (record {
+        low = k.low;
+        at = stays w (subst (λ q. out_in q a ≡ Some w) k.low e)
+            (subst (AtCommand m.job) x.command k.at);
+      }))
+      (h lane x.waiting x.waits (still_changing lane w e c))
 
   pub fewer_ahead : (copy : Copy) (u : Onu) (lane : Priority) (w : Waiting)
       (e : out_in lane a ≡ Some w)
@@ -176,14 +199,16 @@ IsKept m a =
     → Waited lane a w
 
 module _ (link : Link) (lives : ℕ) (unit : Option Onu) (m a : Manager) (t : Told) (f : Fewer m a)
-    (kept : IsKept m a) where
+    (kept : IsKept m a)
+    (stays : (w : Waiting) → out_in Low a ≡ Some w → AtCommand m.job w.command
+    → AtCommand a.job w.command) where
   pub kept_phase : (copy : Copy) (upload : ℕ) → InPhase link lives unit m t copy upload
       → InPhase link lives unit a t copy upload
   kept_phase copy upload h = record {
     synced = h.synced;
     put = fewer_put link lives unit m a t f _ upload h.put;
     one = fewer_one link lives unit m a t f h.one;
-    made = fewer_made link lives unit m a t f h.made;
+    made = fewer_made link lives unit m a t f h.made stays;
     settled = λ i s may way c. ⊎_elim
         (λ x.
         let w = kept (lane_of s.bytes) x.waiting x.waits x.changing in
@@ -216,7 +241,7 @@ milder_steady link lives unit m a t k h =
       upload = c.upload;
       has = k.copy e ∙ c.has;
       phase = kept_phase link lives unit m a t k.fewer
-          (λ lane w. k.kept lane w e) c.copy c.upload c.phase;
+          (λ lane w. k.kept lane w e) (λ w o. k.command e w.command) c.copy c.upload c.phase;
     })
 
 -- another job
@@ -224,8 +249,9 @@ pub rejob_steady : (link : Link) (lives : ℕ) (unit : Option Onu) (m : Manager)
     (t : Told)
     → Steady link lives unit m t
     → ((s : Stage) → j ≡ Some s → AtStep link lives unit (record m { job = j }) t s)
+    → ((w : Waiting) → out_in Low m ≡ Some w → AtCommand m.job w.command → AtCommand j w.command)
     → Steady link lives unit (record m { job = j }) t
-rejob_steady link lives unit m j t h job =
+rejob_steady link lives unit m j t h job stays =
     fewer_steady link lives unit m (record m { job = j }) t same h job (λ e.
     let c = h.phase e in
     record {
@@ -233,7 +259,7 @@ rejob_steady link lives unit m j t h job =
       upload = c.upload;
       has = c.has;
       phase = kept_phase link lives unit m (record m { job = j }) t same
-          (λ lane w f g. record { waiting = w; waits = f; tci = refl; command = refl }) c.copy
+          (λ lane w f g. record { waiting = w; waits = f; tci = refl; command = refl }) stays c.copy
           c.upload c.phase;
     })
   where

@@ -1,8 +1,9 @@
 -- What holds of a manager that is on, of the packets that may come from it, and of the unit,
 -- whatever
 -- happens: of its lanes, of a resynchronisation that runs, and of its copy while it is in step.
-use Rattle.std.proofs.Common.{◌≡◌, ◌≢◌, ℕ, ◌<◌, ◌≤◌, ◌^◌, Bool, true, false, not, List, length}
-use Rattle.std.proofs.Common.{Option, Some, ◌⊎◌, refl}
+use Rattle.std.proofs.Common.{◌≡◌, ◌≢◌, ℕ, ◌<◌, ◌≤◌, ◌^◌, Bool, true, false, not, ◌||◌, List, [], length}
+use Rattle.std.proofs.Common.{Option, Some, None, ◌⊎◌, inl, inr, refl, sym, subst}
+use Rattle.std.specs.List.{Contains}
 use Rattle.std.proofs.lemmas.Bool.{false≢true}
 use Rattle.omci_types.specs.declared.Priority.{Priority}
 use Rattle.omci_types.specs.declared.Priority.TheVariants.{Low, High}
@@ -17,11 +18,13 @@ use Rattle.omci_types.specs.declared.EntityId.{EntityId}
 use Rattle.omci_types.specs.declared.Frame.{Frame}
 use Rattle.link_spec.specs.Link.{Sent, Link, lane_of}
 use Rattle.lane_spec.specs.declared.Purpose.TheVariants as purpose
-use Rattle.lane_spec.specs.Command.{command_frame, is_changing}
+use Rattle.lane_spec.specs.Command.{Command, command_packets, is_changing}
 use Rattle.lane_spec.specs.Lane.{Lane, Waiting}
 use Rattle.manager_spec.specs.declared.Phase.TheVariants as phase
 use Rattle.manager_spec.specs.Manager.{Stage, Probing, Asking, Gathering, AskingAlarms}
 use Rattle.manager_spec.specs.Manager.{GatheringRows, Manager}
+use Rattle.manager_spec.specs.Manager.{StartingImage, SendingImage, EndingImage, DelayingEnd}
+use Rattle.manager_spec.specs.Upgrade.{start_command, end_image_command}
 use Rattle.manager_spec.specs.Submitting.{leaves_copy}
 use Rattle.manager_spec.specs.Steps.{response_of}
 use Rattle.unit_spec.specs.Onu.{Onu}
@@ -31,7 +34,7 @@ use Rattle.resync_laws.specs.Agreeing.{IsCopied}
 use Rattle.resync_laws.proofs.Reading.{is_plain}
 use Rattle.step_laws.specs.InStep.{LastSynced, LastSnapshotIn, CarriedOn}
 use Rattle.step_laws.proofs.Coming.{Coming}
-use Rattle.step_laws.proofs.Reading.{Changes, IsExact}
+use Rattle.step_laws.proofs.Reading.{Changes, IsExact, form}
 use Rattle.step_laws.proofs.Copying.{followed_copy}
 
 -- ---- lanes
@@ -54,13 +57,12 @@ abbrev pub last_in : Priority → Told → ℕ
 last_in lane t = last_at lane t.low t.high
 
 -- a packet's command isn't younger than the one that its lane drew last; and a packet of that one
--- is
--- that of the command that waits
+-- is one of those of the command that waits
 abbrev pub IsNewest : Priority → (last : ℕ) → Option Waiting → Sent → ℕ → Type 0
 IsNewest lane last out s name =
     (lane_of s.bytes ≡ lane → name ≤ last)
     × ((w : Waiting) → out ≡ Some w → name ≡ last
-    → s.bytes ≡ spelling (command_frame w.tci w.command))
+    → Contains (command_packets w.tci w.command) s.bytes)
 
 abbrev pub IsBelow : ℕ → Sent → ℕ → Type 0
 IsBelow drawn s name = name < drawn
@@ -98,24 +100,39 @@ pub record IsPut (P : List ℕ → Type 0) (upload : ℕ) (link : Link) (lives :
   pub early : upload < t.drawn
   pub packets : Coming (IsLeft P upload lives t.history) link t.names
   pub out : (lane : Priority) (w : Waiting) → out_in lane m ≡ Some w → last_in lane t ≡ upload
-      → P (spelling (command_frame w.tci w.command))
+      → (bytes : List ℕ) → Contains (command_packets w.tci w.command) bytes → P bytes
 
 -- ---- a job
 
--- whether the job is a resynchronisation, and not an audit
+-- whether the job is a resynchronisation
 abbrev pub is_resync : Stage → Bool
 is_resync (Probing high low) = true
 is_resync Asking = true
 is_resync (Gathering expected next copy) = true
 is_resync AskingAlarms = false
 is_resync (GatheringRows expected next) = false
+is_resync (StartingImage order asked image) = false
+is_resync (SendingImage order outgoing resent) = false
+is_resync (EndingImage order image busy) = false
+is_resync (DelayingEnd order image busy) = false
 
--- whether the job keeps changes out of the lane: an audit does in the low one, in which it asks,
--- and a
--- resynchronisation in both
+-- whether it is a download
+abbrev pub is_image : Stage → Bool
+is_image (Probing high low) = false
+is_image Asking = false
+is_image (Gathering expected next copy) = false
+is_image AskingAlarms = false
+is_image (GatheringRows expected next) = false
+is_image (StartingImage order asked image) = true
+is_image (SendingImage order outgoing resent) = true
+is_image (EndingImage order image busy) = true
+is_image (DelayingEnd order image busy) = true
+
+-- whether the job keeps changes out of the lane: an audit does in the low one, in which it asks, a
+-- download in the high one, and a resynchronisation in both
 abbrev pub is_barred : Priority → Stage → Bool
-is_barred Low s = true
-is_barred High s = is_resync s
+is_barred Low s = not (is_image s)
+is_barred High s = is_resync s || is_image s
 
 -- whether a resynchronisation no longer waits for the lane's probe
 abbrev pub is_probed : Priority → Stage → Bool
@@ -125,6 +142,10 @@ is_probed lane Asking = true
 is_probed lane (Gathering expected next copy) = true
 is_probed lane AskingAlarms = false
 is_probed lane (GatheringRows expected next) = false
+is_probed lane (StartingImage order asked image) = false
+is_probed lane (SendingImage order outgoing resent) = false
+is_probed lane (EndingImage order image busy) = false
+is_probed lane (DelayingEnd order image busy) = false
 
 -- whether it has asked for a snapshot of the database
 abbrev pub has_asked : Stage → Bool
@@ -133,6 +154,10 @@ has_asked Asking = true
 has_asked (Gathering expected next copy) = true
 has_asked AskingAlarms = false
 has_asked (GatheringRows expected next) = false
+has_asked (StartingImage order asked image) = false
+has_asked (SendingImage order outgoing resent) = false
+has_asked (EndingImage order image busy) = false
+has_asked (DelayingEnd order image busy) = false
 
 -- what a packet of the job's upload may be that was not carried out yet
 abbrev pub left_of : Stage → List ℕ → Type 0
@@ -141,6 +166,10 @@ left_of Asking = Uploads
 left_of (Gathering expected next copy) = NoPacket
 left_of AskingAlarms = NoPacket
 left_of (GatheringRows expected next) = NoPacket
+left_of (StartingImage order asked image) = NoPacket
+left_of (SendingImage order outgoing resent) = NoPacket
+left_of (EndingImage order image busy) = NoPacket
+left_of (DelayingEnd order image busy) = NoPacket
 
 pub probed_resync : (lane : Priority) (s : Stage) → is_probed lane s ≡ true → is_resync s ≡ true
 probed_resync lane (Probing high low) e = refl
@@ -150,6 +179,14 @@ probed_resync Low AskingAlarms e = absurd (false≢true e)
 probed_resync High AskingAlarms e = absurd (false≢true e)
 probed_resync Low (GatheringRows expected next) e = absurd (false≢true e)
 probed_resync High (GatheringRows expected next) e = absurd (false≢true e)
+probed_resync Low (StartingImage order asked image) e = absurd (false≢true e)
+probed_resync High (StartingImage order asked image) e = absurd (false≢true e)
+probed_resync Low (SendingImage order outgoing resent) e = absurd (false≢true e)
+probed_resync High (SendingImage order outgoing resent) e = absurd (false≢true e)
+probed_resync Low (EndingImage order image busy) e = absurd (false≢true e)
+probed_resync High (EndingImage order image busy) e = absurd (false≢true e)
+probed_resync Low (DelayingEnd order image busy) e = absurd (false≢true e)
+probed_resync High (DelayingEnd order image busy) e = absurd (false≢true e)
 
 pub asked_resync : (s : Stage) → has_asked s ≡ true → is_resync s ≡ true
 asked_resync (Probing high low) e = refl
@@ -157,10 +194,36 @@ asked_resync Asking e = refl
 asked_resync (Gathering expected next copy) e = refl
 asked_resync AskingAlarms e = absurd (false≢true e)
 asked_resync (GatheringRows expected next) e = absurd (false≢true e)
+asked_resync (StartingImage order asked image) e = absurd (false≢true e)
+asked_resync (SendingImage order outgoing resent) e = absurd (false≢true e)
+asked_resync (EndingImage order image busy) e = absurd (false≢true e)
+asked_resync (DelayingEnd order image busy) e = absurd (false≢true e)
 
 pub resync_bars : (lane : Priority) (s : Stage) → is_resync s ≡ true → is_barred lane s ≡ true
-resync_bars Low s e = refl
-resync_bars High s e = e
+resync_bars Low (Probing high low) e = refl
+resync_bars High (Probing high low) e = refl
+resync_bars Low Asking e = refl
+resync_bars High Asking e = refl
+resync_bars Low (Gathering expected next copy) e = refl
+resync_bars High (Gathering expected next copy) e = refl
+resync_bars lane AskingAlarms e = absurd (false≢true e)
+resync_bars lane (GatheringRows expected next) e = absurd (false≢true e)
+resync_bars lane (StartingImage order asked image) e = absurd (false≢true e)
+resync_bars lane (SendingImage order outgoing resent) e = absurd (false≢true e)
+resync_bars lane (EndingImage order image busy) e = absurd (false≢true e)
+resync_bars lane (DelayingEnd order image busy) e = absurd (false≢true e)
+
+-- a download is no resynchronisation
+pub resync_no_image : (s : Stage) → is_image s ≡ true → is_resync s ≡ false
+resync_no_image (Probing high low) e = absurd (false≢true e)
+resync_no_image Asking e = absurd (false≢true e)
+resync_no_image (Gathering expected next copy) e = absurd (false≢true e)
+resync_no_image AskingAlarms e = absurd (false≢true e)
+resync_no_image (GatheringRows expected next) e = absurd (false≢true e)
+resync_no_image (StartingImage order asked image) e = refl
+resync_no_image (SendingImage order outgoing resent) e = refl
+resync_no_image (EndingImage order image busy) e = refl
+resync_no_image (DelayingEnd order image busy) e = refl
 
 -- the packet of that lane asks for no change
 abbrev pub IsCalm : Priority → Sent → ℕ → Type 0
@@ -199,6 +262,45 @@ pub record IsFollowed (w : Waiting) : Type 0 where
   pub plainly : is_plain w.command.request ≡ true
   pub stays : leaves_copy w.command.request ≡ false
   pub exact : IsExact w.tci w.command
+  pub single : w.command.earlier ≡ []
+
+-- the job waits for the reply to this start or end of its download
+abbrev pub AtCommand : Option Stage → Command → Type 0
+AtCommand None c = ⊥
+AtCommand (Some (Probing high low)) c = ⊥
+AtCommand (Some Asking) c = ⊥
+AtCommand (Some (Gathering expected next copy)) c = ⊥
+AtCommand (Some AskingAlarms) c = ⊥
+AtCommand (Some (GatheringRows expected next)) c = ⊥
+AtCommand (Some (StartingImage order asked image)) c = c ≡ start_command order asked image
+AtCommand (Some (SendingImage order outgoing resent)) c = ⊥
+AtCommand (Some (EndingImage order image busy)) c = c ≡ end_image_command order image
+AtCommand (Some (DelayingEnd order image busy)) c = ⊥
+
+-- such a command, in the low lane
+pub record IsImages (lane : Priority) (job : Option Stage) (w : Waiting) : Type 0 where
+  pub low : lane ≡ Low
+  pub at : AtCommand job w.command
+
+-- what is known of it
+pub record IsCounted (c : Command) : Type 0 where
+  pub jobs : c.purpose ≡ purpose.Job
+  pub single : c.earlier ≡ []
+  pub some : (form c.request ≡ 1) ⊎ (form c.request ≡ 2)
+
+pub counted_of : (job : Option Stage) (c : Command) → AtCommand job c → IsCounted c
+counted_of None c h = absurd h
+counted_of (Some (Probing high low)) c h = absurd h
+counted_of (Some Asking) c h = absurd h
+counted_of (Some (Gathering expected next copy)) c h = absurd h
+counted_of (Some AskingAlarms) c h = absurd h
+counted_of (Some (GatheringRows expected next)) c h = absurd h
+counted_of (Some (StartingImage order asked image)) c h =
+    subst IsCounted (sym h) (record { jobs = refl; single = refl; some = inl refl })
+counted_of (Some (SendingImage order outgoing resent)) c h = absurd h
+counted_of (Some (EndingImage order image busy)) c h =
+    subst IsCounted (sym h) (record { jobs = refl; single = refl; some = inr refl })
+counted_of (Some (DelayingEnd order image busy)) c h = absurd h
 
 -- the change waits in its lane, which drew it last
 pub record IsItsChange (out : Option Waiting) (last name : ℕ) : Type 0 where
@@ -239,7 +341,7 @@ pub record InPhase (link : Link) (lives : ℕ) (unit : Option Onu) (m : Manager)
   pub one : (w v : Waiting) → out_in Low m ≡ Some w → out_in High m ≡ Some v
       → is_changing w.command.request ≡ true → is_changing v.command.request ≡ true → ⊥
   pub made : (lane : Priority) (w : Waiting) → out_in lane m ≡ Some w
-      → is_changing w.command.request ≡ true → IsFollowed w
+      → is_changing w.command.request ≡ true → IsFollowed w ⊎ IsImages lane m.job w
   pub settled : Coming (IsSettled lives m t) link t.names
   pub idle : (u : Onu) → unit ≡ Some u → WasCarried lives upload t.history → IsIdle lives m t
       → IsCopied u.database copy

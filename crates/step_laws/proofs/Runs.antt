@@ -16,6 +16,7 @@ use Rattle.alarm_spec.specs.declared.TheConstants.{BITMAP_BYTES}
 use Rattle.script_spec.specs.Script.{Header, Action, Probe, Reset, Get, Create, Set, Delete, Resync}
 use Rattle.script_spec.specs.Script.{Audit, Check, Deliver, Flow, NoiseUnit, NoiseOlt, Tick, Sense}
 use Rattle.script_spec.specs.Script.{Alarm, CutUnit, CutOlt, StartUnit, StartOlt, IsAction}
+use Rattle.script_spec.specs.Script.{Activate, Commit, Reboot, Image, CutIn}
 use Rattle.link_spec.specs.declared.Direction.TheVariants.{Down, Up}
 use Rattle.link_spec.specs.Link.{Sent, allowed}
 use Rattle.lane_spec.specs.Command.{sync_entity, ask}
@@ -33,12 +34,16 @@ use Rattle.resync_laws.proofs.Lines.{Fine, StepFine}
 use Rattle.resync_laws.proofs.Runs.{Promises, with_event, reach_step, reach_fresh, reached_fine}
 use Rattle.step_laws.proofs.Coming.{as_many}
 use Rattle.step_laws.proofs.Reading.{IsExact, create_exact, set_exact, delete_exact, reset_exact}
+use Rattle.step_laws.proofs.Reading.{commit_exact, activate_exact, reboot_exact}
+use Rattle.unit_spec.specs.declared.TheConstants.{ONU_G}
+use Rattle.manager_spec.specs.Upgrade.{image_entity}
 use Rattle.step_laws.proofs.Turns.{out_is}
 use Rattle.step_laws.proofs.Hearing.{IsHeard, last_is}
 use Rattle.step_laws.proofs.Lines.{Sures, StepSure, both_sure, probe_sure, submit_sure, check_sure}
 use Rattle.step_laws.proofs.Lines.{resync_sure, audit_sure, sense_sure, alarm_sure, second_sure}
 use Rattle.step_laws.proofs.Lines.{cut_unit_sure, cut_manager_sure, start_unit_sure}
-use Rattle.step_laws.proofs.Lines.{start_manager_sure, noise_sure, Linked, delivery_sure}
+use Rattle.step_laws.proofs.Lines.{start_manager_sure, noise_sure, Linked, delivery_sure, image_sure}
+use Rattle.step_laws.proofs.Lines.{cut_delivery_sure}
 use Rattle.step_laws.proofs.Lines.{first_sure}
 
 -- ---- what the channel promises besides
@@ -110,6 +115,23 @@ reads_delete lane entity h tci fits =
           omega (arith, a);
     })
 
+reads_commit : (lane : Priority) (slot : ℕ) → IsAction (Commit lane slot)
+    → (tci : ℕ) → tci < 2 ^ 16 → IsExact tci (ask (image_entity slot) request.Commit)
+reads_commit lane slot h tci fits =
+    commit_exact tci (ask (image_entity slot) request.Commit) refl fits
+    (record { class = omega arith; instance = let a = h.1.0 in omega (arith, a) })
+
+reads_activate : (lane : Priority) (slot : ℕ) → IsAction (Activate lane slot)
+    → (tci : ℕ) → tci < 2 ^ 16 → IsExact tci (ask (image_entity slot) (request.Activate 0))
+reads_activate lane slot h tci fits =
+    activate_exact tci (ask (image_entity slot) (request.Activate 0)) refl fits
+    (record { class = omega arith; instance = let a = h.1.0 in omega (arith, a) })
+
+reads_reboot : (tci : ℕ) → tci < 2 ^ 16 → IsExact tci (ask ONU_G (request.Reboot 0))
+reads_reboot tci fits =
+    reboot_exact tci (ask ONU_G (request.Reboot 0)) refl fits
+    (record { class = omega arith; instance = omega arith })
+
 reads_reset : (tci : ℕ) → tci < 2 ^ 16 → IsExact tci (ask sync_entity request.Reset)
 reads_reset tci fits =
     reset_exact tci (ask sync_entity request.Reset) refl fits
@@ -118,7 +140,7 @@ reads_reset tci fits =
 module _ (c : Channel) where
   fine_of : (k : ℕ) (n : Nodes) (t : Told) → AreReached (with_event k n) t → Fine n t
   fine_of k n t r = let f = reached_fine c.promises (with_event k n) t r in
-      record { good = f.good; versions = f.versions }
+      record { good = f.good }
 
   -- ---- what is known of the next packets
 
@@ -205,6 +227,18 @@ module _ (c : Channel) where
   acted_sure (Delete lane entity) k n t f r h after =
       submit_sure n t f (fine_of k n t r) lane entity request.Delete refl
       (λ e. reads_delete lane entity h)
+  acted_sure (Activate lane slot) k n t f r h after =
+      submit_sure n t f (fine_of k n t r) lane (image_entity slot) (request.Activate 0) refl
+      (λ e. reads_activate lane slot h)
+  acted_sure (Commit lane slot) k n t f r h after =
+      submit_sure n t f (fine_of k n t r) lane (image_entity slot) request.Commit refl
+      (λ e. reads_commit lane slot h)
+  acted_sure (Reboot lane) k n t f r h after =
+      submit_sure n t f (fine_of k n t r) lane ONU_G (request.Reboot 0) refl (λ e. reads_reboot)
+  acted_sure (Image slot asked check image) k n t f r h after =
+      image_sure n t f (fine_of k n t r) slot asked check image
+  acted_sure (CutIn number call pick) k n t f r h after =
+      cut_delivery_sure call pick number n t f (fine_of k n t r) (linked_of k n t r)
   acted_sure Resync k n t f r h after = resync_sure n t f (fine_of k n t r)
   acted_sure Audit k n t f r h after = audit_sure n t f (fine_of k n t r)
   acted_sure (Sense entity number value) k n t f r h after = sense_sure entity number value n t f
@@ -235,7 +269,7 @@ module _ (c : Channel) where
       let g = reached_fine c.promises _ _ (reach_step a n t r h) in
       let k = acted_sure a n.ends.event (next_event n) t
       (record { steady = f.steady; kept = f.kept }) r h
-      (record { good = g.good; versions = g.versions }) in
+      (record { good = g.good }) in
       record { steady = k.steady; kept = k.kept }
 
   script_sure : (actions : List Action) (n : Nodes) (t : Told) → Sures n t → AreReached n t

@@ -1,7 +1,7 @@
 -- A value that the unit measures may not be written: whatever it is, the database goes on agreeing
 -- with
 -- a copy.
-use Rattle.std.proofs.Common.{◌≡◌, ℕ, Bool, true, false, cond, not, List, [], ◌∷◌, length, Some}
+use Rattle.std.proofs.Common.{◌≡◌, ℕ, Bool, true, false, cond, not, List, [], ◌∷◌, length, Option, Some, None}
 use Rattle.std.proofs.Common.{Ordering, Less, Equal, Greater, is_eq, refl, sym, ap, subst, ◌∙◌}
 use Rattle.std.proofs.Common.{◌==◌}
 use Rattle.std.proofs.lemmas.Option.{same_Some}
@@ -11,11 +11,12 @@ use Rattle.std.specs.Map.{lookup, set_value}
 use Rattle.std.specs.BTreeMap.{is_at}
 use Rattle.omci_types.specs.declared.EntityId.{EntityId}
 use Rattle.class_spec.specs.declared.TheConstants.{ONU_DATA}
-use Rattle.class_spec.specs.Classes.{Attribute, Row, class_row, attribute_in}
+use Rattle.class_spec.specs.Classes.{Attribute, Row, class_row, class_table, attribute_in}
+use Rattle.omci_types.specs.declared.Software.{Software}
 use Rattle.mib_spec.specs.declared.Sensed.{Sensed}
 use Rattle.mib_spec.specs.declared.Sensed.TheVariants.{NotAllowed, Same, Changed}
 use Rattle.mib_spec.specs.Database.{Database, Managed, Values, entity_cmp, with_value, values_of}
-use Rattle.mib_spec.specs.Database.{with_values}
+use Rattle.mib_spec.specs.Database.{with_values, managed_of, image_entity, image_values, with_software}
 use Rattle.mib_spec.specs.Requests.{may_sense, is_sensed, sense_outcome}
 use Rattle.upload_spec.specs.Pieces.{Copy}
 use Rattle.upload_spec.specs.Copies.{attributes_of, copied}
@@ -23,8 +24,9 @@ use Rattle.upload_laws.specs.Shaped.{IsShaped}
 use Rattle.mib_laws.proofs.Others.{entity_exact}
 use Rattle.resync_laws.specs.Agreeing.{ValuesAgree, Agrees, IsCopied}
 use Rattle.resync_laws.proofs.Databases.{with_values_whole, same_row, may_be_sensed, value_shaped}
-use Rattle.resync_laws.proofs.Databases.{sensed_row}
-use Rattle.resync_laws.proofs.Following.{IsThere, there_too, row_attributes, values_held}
+use Rattle.resync_laws.proofs.Databases.{sensed_row, image_row, image_row_is, image_wide, version_wide}
+use Rattle.resync_laws.specs.Databases.{HasVersions}
+use Rattle.resync_laws.proofs.Following.{IsThere, there, there_too, row_attributes, values_held}
 use Rattle.resync_laws.proofs.Following.{held_still}
 
 -- the value of an attribute that may not be written
@@ -140,3 +142,67 @@ sense_copied one number value database copy h =
         (sym attributes)
         (unwritten_agrees number value k.row.attributes k.managed.values k.values k.shaped may
         agree)))
+
+-- ---- the software images
+
+-- attributes none of which may be written
+abbrev pub AreFixed : List Attribute → Type 0
+AreFixed [] = Unit {0}
+AreFixed (one ∷ rest) = (one.written ≡ false) × AreFixed rest
+
+fixed_agree : (attributes : List Attribute) (values held copies : Values) → AreFixed attributes
+    → IsShaped attributes values → IsShaped attributes held → ValuesAgree attributes held copies
+    → ValuesAgree attributes values copies
+fixed_agree [] [] [] copies f s r a = a
+fixed_agree [] [] (h ∷ hs) copies f s r a = absurd r
+fixed_agree [] (v ∷ vs) held copies f s r a = absurd s
+fixed_agree (one ∷ rest) [] held copies f s r a = absurd s
+fixed_agree (one ∷ rest) (v ∷ vs) [] copies f s r a = absurd r
+fixed_agree (one ∷ rest) (v ∷ vs) (h ∷ hs) [] f s r a = absurd a
+fixed_agree (one ∷ rest) (v ∷ vs) (h ∷ hs) (c ∷ cs) f s r a = (
+  s.0 ∙ sym r.0 ∙ a.0,
+  (λ w. absurd (false≢true (sym f.0 ∙ w))),
+  fixed_agree rest vs hs cs f.1 s.2 r.2 a.2,
+)
+
+fixed_image : AreFixed image_row.attributes
+unfolding image_row class_row class_table
+fixed_image = (refl, (refl, (refl, (refl, tt))))
+
+-- an image's values in the database
+image_copied : (number : ℕ) (held : Values) (database : Database) (copy : Copy)
+    → IsShaped image_row.attributes held → IsCopied database copy
+    → IsCopied (with_values (image_entity number) held database) copy
+unfolding with_values
+image_copied number held database copy s h = go (managed_of one database) refl
+  where
+    one : EntityId
+    one = image_entity number
+
+    absent : managed_of one database ≡ None → with_values one held database ≡ database
+    absent e = ap (λ o. option_map_or (λ (m : Managed). set_value (is_at (entity_cmp one)) database
+        (record m { values = held })) o database) e
+
+    go : (o : Option Managed) → managed_of one database ≡ o
+        → IsCopied (with_values one held database) copy
+    go None e = subst (λ d. IsCopied d copy) (sym (absent e)) h
+    go (Some managed) e =
+        let k = there one managed database copy h e in
+        let row = same_row 7 k.row image_row k.is image_row_is in
+        let attributes = row_attributes one.class k.row k.is in
+        let shaped = subst (λ (x : Row). IsShaped x.attributes held) (sym row) s in
+        let fixed = subst (λ (x : Row). AreFixed x.attributes) (sym row) fixed_image in
+        let agree = subst (λ l. ValuesAgree l k.managed.values k.values) attributes k.agree in
+        revalued_alone one database copy k held h shaped
+        (subst (λ l. ValuesAgree l held k.values) (sym attributes)
+        (fixed_agree k.row.attributes held k.managed.values k.values fixed shaped k.shaped agree))
+
+-- a copy goes on agreeing where the software images are shown
+pub software_copied : (m : Software) (database : Database) (copy : Copy) → HasVersions m
+    → IsCopied database copy → IsCopied (with_software m database) copy
+unfolding with_software
+software_copied m database copy v h =
+    image_copied 1 (image_values 1 m)
+    (with_values (image_entity 0) (image_values 0 m) database) copy
+    (image_wide 1 m (version_wide m.second v.second))
+    (image_copied 0 (image_values 0 m) database copy (image_wide 0 m (version_wide m.first v.first)) h)

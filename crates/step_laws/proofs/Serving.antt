@@ -4,6 +4,7 @@ use Rattle.std.proofs.Common.{Some, ◌⊎◌, inl, inr, ⊎_elim, refl, sym, ap
 use Rattle.std.proofs.lemmas.Option.{same_Some}
 use Rattle.std.proofs.lemmas.Bool.{false≢true}
 use Rattle.omci_types.specs.declared.EntityId.{EntityId}
+use Rattle.message_spec.specs.declared.Request.{Request}
 use Rattle.omci_types.specs.declared.Frame.{Frame}
 use Rattle.omci_types.specs.declared.Priority.{Priority}
 use Rattle.omci_types.specs.declared.Priority.TheVariants.{Low, High}
@@ -16,6 +17,7 @@ use Rattle.lane_spec.specs.Command.{Command, command_frame, is_changing}
 use Rattle.lane_spec.specs.Lane.{Waiting}
 use Rattle.manager_spec.specs.Manager.{Stage, Probing, Asking, Gathering, AskingAlarms}
 use Rattle.manager_spec.specs.Manager.{GatheringRows, Manager}
+use Rattle.manager_spec.specs.Manager.{StartingImage, SendingImage, EndingImage, DelayingEnd}
 use Rattle.manager_spec.specs.Steps.{response_of}
 use Rattle.unit_spec.specs.Onu.{Onu, Answer, answer, upload, onu_received}
 use Rattle.history_spec.specs.History.{Entry, WasCarried, LastReply, LastSnapshot}
@@ -28,13 +30,14 @@ use Rattle.resync_laws.proofs.Serving.{history_after, unit_after}
 use Rattle.resync_laws.proofs.Following.{snapshot_copied}
 use Rattle.step_laws.specs.InStep.{CarriedOn}
 use Rattle.step_laws.proofs.Coming.{Coming, coming_map, coming_more, coming_past}
-use Rattle.step_laws.proofs.Reading.{Changes, IsExact, exact_read, exact_request}
+use Rattle.step_laws.proofs.Reading.{Changes, IsExact, exact_read, exact_request, form}
+use Rattle.step_laws.proofs.Reading.{only_packet, command_form, command_asked}
 use Rattle.step_laws.proofs.Copying.{has_data, answer_has, same_database, followed_copy}
-use Rattle.step_laws.proofs.Copying.{answer_copied}
+use Rattle.step_laws.proofs.Copying.{answer_copied, form_copy, form_entity, counted_copied}
 use Rattle.step_laws.proofs.Parts.{out_in, last_in, IsNewest, IsBelow, Uploads, NoPacket, IsLeft}
 use Rattle.step_laws.proofs.Parts.{IsPut, IsCalm, IsPutBy, IsCurrent, AtStep, IsItsChange}
 use Rattle.step_laws.proofs.Parts.{IsSettled, IsOnTheWay, IsIdle, InPhase, Steady, Kept, left_of}
-use Rattle.step_laws.proofs.Parts.{has_asked, is_probed}
+use Rattle.step_laws.proofs.Parts.{has_asked, is_probed, IsFollowed, IsImages, IsCounted, counted_of}
 use Rattle.step_laws.proofs.Histories.{Grown, grown}
 use Rattle.step_laws.proofs.Sending.{same_more}
 
@@ -43,7 +46,7 @@ use Rattle.step_laws.proofs.Sending.{same_more}
 -- it asks for a change
 pub record IsChange (bytes : List ℕ) (f : Frame) (u : Onu) (a : Answer) : Type 0 where
   pub changes : Changes bytes
-  pub is : a ≡ answer f changes.request u
+  pub is : a ≡ answer false f changes.request u
 
 change_or : (bytes : List ℕ) (f : Frame) (u : Onu) (a : Answer) → packet_frame bytes ≡ Some f
     → From f u a
@@ -77,11 +80,28 @@ from_has f u a (inr k) h = subst (λ (x : Answer). has_unit_entities x.unit.data
 
 -- the answer to a command's packet
 asked_answer : (f : Frame) (u : Onu) (a : Answer) (tci : ℕ) (c : Command) → IsExact tci c
-    → packet_frame (spelling (command_frame tci c)) ≡ Some f → From f u a → a ≡ answer f c.request u
+    → packet_frame (spelling (command_frame tci c)) ≡ Some f → From f u a → a ≡ answer false f c.request u
 asked_answer f u a tci c h e (inl k) =
-    k.is ∙ ap (λ x. answer f x u) (exact_request tci c f k.tci k.entity k.request h e k.read)
+    k.is ∙ ap (λ x. answer false f x u) (exact_request tci c f k.tci k.entity k.request h e k.read)
 asked_answer f u a tci c h e (inr k) =
     absurd (let r = k.read in let q = (exact_read tci c f h e).is in cc)
+
+-- the answer to a start or an end, whatever it asks
+record IsAnswer (f : Frame) (u : Onu) (a : Answer) (n : ℕ) : Type 0 where
+  request : Request
+  is : a ≡ answer false f request u
+  same : form request ≡ n
+
+counted_answer : (f : Frame) (u : Onu) (a : Answer) (tci : ℕ) (c : Command)
+    → packet_frame (spelling (command_frame tci c)) ≡ Some f → From f u a
+    → IsAnswer f u a (form c.request)
+counted_answer f u a tci c e (inl k) = record {
+  request = k.request;
+  is = k.is;
+  same = command_form tci c f k.tci k.entity k.request e k.read;
+}
+counted_answer f u a tci c e (inr k) =
+    absurd (let r = k.read in let q = (command_asked tci c f e).is in cc)
 
 asked_long : (tci : ℕ) (c : Command) (f : Frame) → IsExact tci c
     → packet_frame (spelling (command_frame tci c)) ≡ Some f → LongEnough c.request
@@ -107,7 +127,7 @@ one_change link lives unit m t copy upload h High Low w v e f g i = absurd (h.on
 module _ (number : ℕ) (s : Sent) (link : Link) (lives : ℕ) (u : Onu) (t : Told)
     (may : allowed number link ≡ Some s) (way : s.direction ≡ Down)
     (fresh : WasCarried lives (name_at number t.names) t.history → ⊥)
-    (c : Carries s.bytes u (onu_received s.bytes u)) where
+    (c : Carries s.bytes u (onu_received false s.bytes u)) where
   abbrev name : ℕ
   name = name_at number t.names
 
@@ -198,7 +218,7 @@ module _ (number : ℕ) (s : Sent) (link : Link) (lives : ℕ) (u : Onu) (t : To
     upload_current : (asking : ℕ) → name ≡ asking → Uploads s.bytes
         → IsPutBy asking c.answer.unit.database newer
     upload_current asking e up =
-        let is = carries_upload up.tci up.entity s.bytes u (onu_received s.bytes u) up.is c in
+        let is = carries_upload up.tci up.entity s.bytes u (onu_received false s.bytes u) up.is c in
         record {
           copy = without_makers u.database;
           last = subst (λ (a : Answer). LastSnapshot asking (without_makers u.database)
@@ -213,6 +233,10 @@ module _ (number : ℕ) (s : Sent) (link : Link) (lives : ℕ) (u : Onu) (t : To
     current_by (Probing high low) a k was = absurd (false≢true a)
     current_by AskingAlarms a k was = absurd (false≢true a)
     current_by (GatheringRows expected next) a k was = absurd (false≢true a)
+    current_by (StartingImage order asked image) a k was = absurd (false≢true a)
+    current_by (SendingImage order outgoing resent) a k was = absurd (false≢true a)
+    current_by (EndingImage order image busy) a k was = absurd (false≢true a)
+    current_by (DelayingEnd order image busy) a k was = absurd (false≢true a)
     current_by Asking a k was = ⊎_elim
         (λ (e : (lives ≡ lives) × (name ≡ t.asking)). ⊎_elim
         (λ (up : Uploads s.bytes). upload_current t.asking e.1 up)
@@ -289,42 +313,74 @@ module _ (number : ℕ) (s : Sent) (link : Link) (lives : ℕ) (u : Onu) (t : To
         }
 
         -- it is carried out now
-        ahead_now : name ≡ last_in lane t → WasCarried lives upload newer
-            → IsOnTheWay lives after w (last_in lane t) newer copy
-        ahead_now named up =
-            let bytes : s.bytes ≡ spelling (command_frame w.tci w.command) =
-            ((h.lanes lane).newest number s may way).1 w e named in
-            let followed = k.made lane w e g in
-            let read = ap packet_frame (sym bytes) ∙ c.read in
-            let asked = exact_read w.tci w.command c.frame followed.exact read in
-            let is = asked_answer c.frame u c.answer w.tci w.command followed.exact read c.from in
-            let agreed = k.idle u refl (carried_before upload k.put up) (λ other v f i was.
-            let same = one_change link lives (Some u) m t copy upload k other lane v w f e i g in
-            fresh (subst (λ n. WasCarried lives n t.history)
-            (ap (λ q. last_in q t) same ∙ sym named) was)) in
-            record {
-              before = u.database;
-              carried = subst (λ n. CarriedOn lives n u.database newer) named more.on;
-              agreed = agreed;
-              later = λ r f last got. ⊎_elim
-                  (λ (z : (name ≡ last_in lane t) × (reply ≡ r)).
-                  subst (λ (a : Answer). IsCopied a.unit.database
-                  (followed_copy w.command.entity w.command.request (response_of f) copy))
-                  (sym is)
-                  (subst (λ (one : EntityId). IsCopied
-                  (answer c.frame w.command.request u).unit.database
-                  (followed_copy one w.command.request (response_of f) copy)) asked.entity
-                  (answer_copied c.frame w.command.request u copy f
-                  (subst (λ (one : EntityId). one.instance < 2 ^ 16)
-                  (sym asked.entity) followed.exact.instance)
-                  (asked_long w.tci w.command c.frame followed.exact read) followed.plainly
-                  followed.stays agreed
-                  (ap (λ (a : Answer). packet_frame (spelling a.reply)) (sym is)
-                  ∙ ap packet_frame z.1 ∙ got))))
-                  (λ (z : (name ≢ last_in lane t) × LastReply (last_in lane t) r t.history). absurd
-                  (z.0 named))
-                  (more.last (last_in lane t) r last);
-            }
+        module _ (named : name ≡ last_in lane t) (up : WasCarried lives upload newer) where
+          agreed_before : IsCopied u.database copy
+          agreed_before = k.idle u refl (carried_before upload k.put up) (λ other v f i was.
+              let same = one_change link lives (Some u) m t copy upload k other lane v w f e i g in
+              fresh (subst (λ n. WasCarried lives n t.history)
+              (ap (λ q. last_in q t) same ∙ sym named) was))
+
+          -- the one packet of its command
+          its_packet : w.command.earlier ≡ [] → s.bytes ≡ spelling (command_frame w.tci w.command)
+          its_packet single =
+              only_packet w.tci w.command s.bytes single
+              (((h.lanes lane).newest number s may way).1 w e named)
+
+          now_by : ((f : Frame) → packet_frame (spelling c.answer.reply) ≡ Some f
+              → IsCopied c.answer.unit.database
+              (followed_copy w.command.entity w.command.request (response_of f) copy))
+              → IsOnTheWay lives after w (last_in lane t) newer copy
+          now_by done = record {
+            before = u.database;
+            carried = subst (λ n. CarriedOn lives n u.database newer) named more.on;
+            agreed = agreed_before;
+            later = λ r f last got. ⊎_elim
+                (λ (z : (name ≡ last_in lane t) × (reply ≡ r)). done f (ap packet_frame z.1 ∙ got))
+                (λ (z : (name ≢ last_in lane t) × LastReply (last_in lane t) r t.history). absurd
+                (z.0 named))
+                (more.last (last_in lane t) r last);
+          }
+
+          followed_now : IsFollowed w → IsOnTheWay lives after w (last_in lane t) newer copy
+          followed_now followed =
+              let bytes = its_packet followed.single in
+              let read = ap packet_frame (sym bytes) ∙ c.read in
+              let asked = exact_read w.tci w.command c.frame followed.exact read in
+              let is = asked_answer c.frame u c.answer w.tci w.command followed.exact read c.from in
+              now_by (λ f got.
+              subst (λ (a : Answer). IsCopied a.unit.database
+              (followed_copy w.command.entity w.command.request (response_of f) copy)) (sym is)
+              (subst (λ (one : EntityId). IsCopied
+              (answer false c.frame w.command.request u).unit.database
+              (followed_copy one w.command.request (response_of f) copy)) asked.entity
+              (answer_copied c.frame w.command.request u copy f
+              (subst (λ (one : EntityId). one.instance < 2 ^ 16)
+              (sym asked.entity) followed.exact.instance)
+              (asked_long w.tci w.command c.frame followed.exact read) followed.plainly
+              followed.stays agreed_before
+              (ap (λ (a : Answer). packet_frame (spelling a.reply)) (sym is) ∙ got))))
+
+          counted_now : IsCounted w.command → IsOnTheWay lives after w (last_in lane t) newer copy
+          counted_now counted =
+              let bytes = its_packet counted.single in
+              let read = ap packet_frame (sym bytes) ∙ c.read in
+              let q = counted_answer c.frame u c.answer w.tci w.command read c.from in
+              let some = ⊎_elim (λ z. inl (q.same ∙ z)) (λ z. inr (q.same ∙ z)) counted.some in
+              now_by (λ f got.
+              subst (λ (x : Copy). IsCopied c.answer.unit.database x)
+              (form_copy w.command.entity q.request w.command.request (response_of f) copy q.same
+              counted.some)
+              (subst (λ (a : Answer). IsCopied a.unit.database
+              (followed_copy w.command.entity q.request (response_of f) copy)) (sym q.is)
+              (subst (λ (x : Copy). IsCopied (answer false c.frame q.request u).unit.database x)
+              (form_entity c.frame.entity w.command.entity q.request (response_of f) copy some)
+              (counted_copied c.frame q.request u copy f some agreed_before
+              (ap (λ (a : Answer). packet_frame (spelling a.reply)) (sym q.is) ∙ got)))))
+
+          ahead_now : IsOnTheWay lives after w (last_in lane t) newer copy
+          ahead_now = ⊎_elim (λ (x : IsFollowed w). followed_now x)
+              (λ (x : IsImages lane m.job w). counted_now (counted_of m.job w.command x.at))
+              (k.made lane w e g)
 
         ahead_by : WasCarried lives (last_in lane t) newer → WasCarried lives upload newer
             → IsOnTheWay lives after w (last_in lane t) newer copy

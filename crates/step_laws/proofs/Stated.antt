@@ -18,7 +18,7 @@ use Rattle.lane_spec.specs.Lane.{Waiting}
 use Rattle.manager_spec.specs.Manager.{Manager}
 use Rattle.unit_spec.specs.Onu.{Onu, answer}
 use Rattle.history_spec.specs.History.{Entry, CarriedOut, TookReply, Remarked, TookSnapshot, Synced}
-use Rattle.history_spec.specs.History.{TookAlarms, Audited, WasCarried}
+use Rattle.history_spec.specs.History.{TookAlarms, Audited, Stored, Downloaded, WasCarried}
 use Rattle.world_spec.specs.Nodes.{Nodes, first_nodes, nodes_after}
 use Rattle.world_spec.specs.History.{Told, first_told, told_after}
 use Rattle.world_laws.specs.Facts.{AreReached}
@@ -40,6 +40,8 @@ one_synced a b (TookReply c r ∷ older) h k = one_synced a b older h k
 one_synced a b (Remarked (TookSnapshot life c database) ∷ older) h k = one_synced a b older h k
 one_synced a b (Remarked (TookAlarms life c alarms) ∷ older) h k = one_synced a b older h k
 one_synced a b (Remarked (Audited c table notices) ∷ older) h k = one_synced a b older h k
+one_synced a b (Remarked (Stored entry) ∷ older) h k = one_synced a b older h k
+one_synced a b (Remarked (Downloaded slot image) ∷ older) h k = one_synced a b older h k
 one_synced a b (Remarked (Synced c copy) ∷ older) h k = sym h ∙ k
 
 was_carried_or : (life command : ℕ) (history : List Entry) → WasCarried life command history
@@ -176,7 +178,7 @@ module _ (c : Channel) where
 
   pub check_equal : (n : Nodes) (t : Told) → AreReached n t → (m : Manager) (u : Onu) (command : ℕ)
       → AreInStep n t m u command → IsAtRest m → (asked reply : Frame) → asked.entity ≡ sync_entity
-      → packet_frame (spelling (answer asked sync_request u).reply) ≡ Some reply
+      → packet_frame (spelling (answer false asked sync_request u).reply) ≡ Some reply
       → ChecksEqual m u reply
   check_equal n t r m u command s rest asked reply entity e =
       let k = outright n t r m u command s rest in

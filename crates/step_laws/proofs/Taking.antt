@@ -1,5 +1,5 @@
 -- The manager takes a reply.
-use Rattle.std.proofs.Common.{◌≡◌, ◌≢◌, ℕ, Bool, true, false, List, Option, Some, None, inl, inr}
+use Rattle.std.proofs.Common.{◌≡◌, ◌≢◌, ℕ, Bool, true, false, not, ◌||◌, List, ◌∷◌, Option, Some, None, inl, inr}
 use Rattle.std.proofs.Common.{⊎_elim, refl, sym, ap, subst, ◌∙◌, ◌==◌}
 use Rattle.std.proofs.lemmas.Option.{same_Some}
 use Rattle.std.proofs.lemmas.Bool.{false≢true}
@@ -8,25 +8,28 @@ use Rattle.omci_types.specs.declared.EntityId.{EntityId}
 use Rattle.omci_types.specs.declared.Frame.{Frame}
 use Rattle.omci_types.specs.declared.Priority.{Priority}
 use Rattle.omci_types.specs.declared.Priority.TheVariants.{Low, High}
-use Rattle.frame_spec.specs.Baseline.{spelling, packet_frame}
+use Rattle.frame_spec.specs.Baseline.{packet_frame}
 use Rattle.message_spec.specs.declared.Request.{Request}
 use Rattle.message_spec.specs.declared.Request.TheVariants as request
 use Rattle.message_spec.specs.declared.Response.{Response}
 use Rattle.upload_spec.specs.Pieces.{Copy}
 use Rattle.link_spec.specs.Link.{Link, lane_of}
-use Rattle.lane_spec.specs.Command.{Command, command_frame, is_changing}
+use Rattle.lane_spec.specs.Command.{Command, is_changing}
 use Rattle.lane_spec.specs.Lane.{Waiting, end_command}
 use Rattle.manager_spec.specs.declared.Phase.TheVariants as phase
 use Rattle.manager_spec.specs.declared.Report.TheVariants as report
 use Rattle.manager_spec.specs.Manager.{Stage, Probing, Asking, Gathering, AskingAlarms}
 use Rattle.manager_spec.specs.Manager.{GatheringRows, Manager, lane_in, with_lane, with_report}
+use Rattle.manager_spec.specs.Manager.{StartingImage, SendingImage, EndingImage, DelayingEnd}
 use Rattle.manager_spec.specs.Copying.{copy_after, followed_if, followed}
 use Rattle.manager_spec.specs.Resync.{probe_answered, resync_done}
 use Rattle.manager_spec.specs.Steps.{response_of, code_of, followed_by, job_probed}
 use Rattle.unit_spec.specs.Onu.{Onu}
 use Rattle.alarm_spec.specs.Alarms.{Alarm}
-use Rattle.history_spec.specs.History.{Entry, WasCarried, LastReply, LastSnapshot}
-use Rattle.world_spec.specs.History.{Told}
+use Rattle.store_spec.specs.History.{StoreEntry}
+use Rattle.history_spec.specs.History.{Entry, Remarked, Stored, Downloaded, WasCarried, LastReply}
+use Rattle.history_spec.specs.History.{LastSnapshot}
+use Rattle.world_spec.specs.History.{Told, with_entry}
 use Rattle.resync_laws.specs.Agreeing.{IsCopied}
 use Rattle.resync_laws.proofs.Invariants.{one_snapshot}
 use Rattle.resync_laws.proofs.Telling.{synced_told, audited_told}
@@ -37,7 +40,8 @@ use Rattle.step_laws.proofs.Coming.{Coming, coming_map}
 use Rattle.step_laws.proofs.Copying.{followed_copy, Follows, follows, follows_copy}
 use Rattle.step_laws.proofs.Parts.{lane_at, out_in, last_in, NoPacket, IsLeft, IsPut, IsCalm}
 use Rattle.step_laws.proofs.Parts.{AtStep, IsItsChange, IsSettled, InPhase, Steady, left_of}
-use Rattle.step_laws.proofs.Parts.{has_asked, is_probed, is_resync, is_barred, probed_resync}
+use Rattle.step_laws.proofs.Parts.{has_asked, is_probed, is_resync, is_image, is_barred}
+use Rattle.step_laws.proofs.Parts.{probed_resync, AtCommand}
 use Rattle.step_laws.proofs.Parts.{asked_resync, resync_bars}
 use Rattle.step_laws.proofs.Milder.{Fewer, Milder, fewer_put, fewer_one, fewer_made, still_changing}
 use Rattle.step_laws.proofs.Milder.{fewer_step, fewer_steady, milder_steady, rejob_steady}
@@ -152,6 +156,35 @@ took_steady l link lives unit m t h =
       synced = λ c x. x;
     }) h
 
+-- an entry of the unit's store, or a download that has ended
+pub stored_steady : (entry : StoreEntry) (link : Link) (lives : ℕ) (unit : Option Onu) (m : Manager)
+    (t : Told) → Steady link lives unit m t
+    → Steady link lives unit m (with_entry (Remarked (Stored entry)) t)
+stored_steady entry link lives unit m t h =
+    told_steady link lives unit m t t.notices (Remarked (Stored entry) ∷ t.history)
+    (record {
+      was = λ l c x. x;
+      still = λ l c x. x;
+      on = λ l c d x. x;
+      last = λ c r x. x;
+      put = λ c y x. x;
+      synced = λ c x. x;
+    }) h
+
+pub ended_steady : (slot : ℕ) (image : List ℕ) (link : Link) (lives : ℕ) (unit : Option Onu)
+    (m : Manager) (t : Told) → Steady link lives unit m t
+    → Steady link lives unit m (with_entry (Remarked (Downloaded slot image)) t)
+ended_steady slot image link lives unit m t h =
+    told_steady link lives unit m t t.notices (Remarked (Downloaded slot image) ∷ t.history)
+    (record {
+      was = λ l c x. x;
+      still = λ l c x. x;
+      on = λ l c d x. x;
+      last = λ c r x. x;
+      put = λ c y x. x;
+      synced = λ c x. x;
+    }) h
+
 -- a table of an audit
 pub audited_steady : (link : Link) (lives : ℕ) (unit : Option Onu) (m : Manager) (t : Told)
     → Steady link lives unit m t → Steady link lives unit m (audited_told m t)
@@ -175,7 +208,9 @@ module _ (l : Priority) (w : Waiting) (link : Link) (lives : ℕ) (unit : Option
     (was : WasCarried lives (last_in l t) t.history)
     (last : LastReply (last_in l t) bytes t.history) (fewer : Fewer m a) (gone : out_in l a ≡ None)
     (others : (k : Priority) (v : Waiting) → k ≢ l → out_in k m ≡ Some v
-    → out_in k a ≡ Some v) where
+    → out_in k a ≡ Some v)
+    (stays : (v : Waiting) → out_in Low a ≡ Some v → AtCommand m.job v.command
+    → AtCommand a.job v.command) where
   change_phase : (copy : Copy) (upload : ℕ) → InPhase link lives unit m t copy upload
       → InPhase link lives unit a t (followed_copy w.command.entity w.command.request
       (response_of f) copy) upload
@@ -183,7 +218,7 @@ module _ (l : Priority) (w : Waiting) (link : Link) (lives : ℕ) (unit : Option
     synced = h.synced;
     put = fewer_put link lives unit m a t fewer NoPacket upload h.put;
     one = fewer_one link lives unit m a t fewer h.one;
-    made = fewer_made link lives unit m a t fewer h.made;
+    made = fewer_made link lives unit m a t fewer h.made stays;
     settled = λ i s may way ch. ⊎_elim
         (λ (x : IsItsChange (out_in (lane_of s.bytes) m) (last_in (lane_of s.bytes) t) _). ⊎_elim
         (λ (same : lane_of s.bytes ≡ l). inr
@@ -207,14 +242,14 @@ module _ (l : Priority) (w : Waiting) (link : Link) (lives : ℕ) (unit : Option
         absurd (let z = subst (λ q. out_in q a ≡ Some v) same f' in cc);
   }
 
-  pub change_steady : ((s : Stage) → a.job ≡ Some s → m.job ≡ Some s)
+  pub change_steady : ((s : Stage) → a.job ≡ Some s → AtStep link lives unit a t s)
       → (a.phase ≡ phase.InStep → m.phase ≡ phase.InStep)
       → ((copy : Copy) → m.phase ≡ phase.InStep → m.copy ≡ Some copy
       → a.copy ≡ Some (followed_copy w.command.entity w.command.request (response_of f) copy))
       → Steady link lives unit m t → Steady link lives unit a t
   change_steady job in_step copied h =
       fewer_steady link lives unit m a t fewer h
-      (λ s j. fewer_step link lives unit m a t fewer s (h.job s (job s j)))
+      job
       (λ p. let c = h.phase (in_step p) in record {
         copy = followed_copy w.command.entity w.command.request (response_of f) c.copy;
         upload = c.upload;
@@ -234,6 +269,8 @@ unchanged_if true one r m e = go m.copy
     same copy request.Delete f = absurd (false≢true (sym f))
     same copy (request.Set mask values) f = absurd (false≢true (sym f))
     same copy request.Commit f = absurd (false≢true (sym f))
+    same copy (request.Start window size targets target) f = absurd (false≢true (sym f))
+    same copy (request.End crc size targets target) f = absurd (false≢true (sym f))
     same copy _ f = refl
 
     go : (o : Option Copy) → option_map (copy_after m.phase one r) o ≡ o
@@ -254,6 +291,7 @@ follows_like c o m e = let k = follows c o m in record {
   job = λ s j. sym k.job ∙ j;
   was = λ p. sym k.phase ∙ p;
   copy = λ p. unchanged c o m e;
+  command = λ p d x. subst (λ j. AtCommand j d) (sym k.job) x;
 }
 
 -- what is known of a reply that a lane may take, but for one to a probe
@@ -290,7 +328,9 @@ submission_by l w link lives unit m x t bytes f read e own h job in_step copy go
         change_steady l w link lives unit m result t bytes f read e g own.carried own.reply
         (fewer result k.low k.high)
         (same_out l ∙ gone) (λ q v ne o. same_out q ∙ others q v ne o)
-        (λ s j. sym (k.job ∙ job) ∙ j) (λ p. sym (k.phase ∙ in_step) ∙ p)
+        (λ v o x. subst (λ j. AtCommand j v.command) (sym (k.job ∙ job)) x)
+        (λ s j. fewer_step link lives unit m result t (fewer result k.low k.high) s
+        (h.job s (sym (k.job ∙ job) ∙ j))) (λ p. sym (k.phase ∙ in_step) ∙ p)
         (λ c p o. follows_copy w.command (response_of f) x c (in_step ∙ p) (copy ∙ o)) h
 
 pub submission_steady : (l : Priority) (w : Waiting) (link : Link) (lives : ℕ) (unit : Option Onu)
@@ -352,8 +392,8 @@ probed_step l link lives unit m j t s calm k = record {
         (IsLeft (left_of (probe_answered l s)) t.asking lives t.history) link t.names
         (λ x n z e. ⊎_elim (λ y. inl (subst (λ P. P x.bytes) (still_left l s) y)) (λ y. inr y)
         (z e)) q.packets;
-    out = λ lane w e n. subst (λ P. P (spelling (command_frame w.tci w.command))) (still_left l s)
-        (q.out lane w e n);
+    out = λ lane w e n bytes among. subst (λ P. P bytes) (still_left l s)
+        (q.out lane w e n bytes among);
   };
   current = λ a. k.current (still_asked l s ∙ a);
 }
@@ -369,11 +409,41 @@ probed_step l link lives unit m j t s calm k = record {
     same_resync High AskingAlarms = refl
     same_resync Low (GatheringRows expected next) = refl
     same_resync High (GatheringRows expected next) = refl
+    same_resync Low (StartingImage order asked image) = refl
+    same_resync High (StartingImage order asked image) = refl
+    same_resync Low (SendingImage order outgoing resent) = refl
+    same_resync High (SendingImage order outgoing resent) = refl
+    same_resync Low (EndingImage order image busy) = refl
+    same_resync High (EndingImage order image busy) = refl
+    same_resync Low (DelayingEnd order image busy) = refl
+    same_resync High (DelayingEnd order image busy) = refl
+
+    same_image : (q : Priority) (x : Stage) → is_image (probe_answered q x) ≡ is_image x
+    same_image Low (Probing high low) = refl
+    same_image High (Probing high low) = refl
+    same_image Low Asking = refl
+    same_image High Asking = refl
+    same_image Low (Gathering expected next copy) = refl
+    same_image High (Gathering expected next copy) = refl
+    same_image Low AskingAlarms = refl
+    same_image High AskingAlarms = refl
+    same_image Low (GatheringRows expected next) = refl
+    same_image High (GatheringRows expected next) = refl
+    same_image Low (StartingImage order asked image) = refl
+    same_image High (StartingImage order asked image) = refl
+    same_image Low (SendingImage order outgoing resent) = refl
+    same_image High (SendingImage order outgoing resent) = refl
+    same_image Low (EndingImage order image busy) = refl
+    same_image High (EndingImage order image busy) = refl
+    same_image Low (DelayingEnd order image busy) = refl
+    same_image High (DelayingEnd order image busy) = refl
 
     still_barred : (lane : Priority) → is_barred lane (probe_answered l s) ≡ true
         → is_barred lane s ≡ true
-    still_barred Low b = refl
-    still_barred High b = sym (same_resync l s) ∙ b
+    still_barred Low b = ap not (sym (same_image l s)) ∙ b
+    still_barred High b =
+        ap (λ x. x || is_image s) (sym (same_resync l s))
+        ∙ ap (λ x. is_resync (probe_answered l s) || x) (sym (same_image l s)) ∙ b
 
     still_probed : (q lane : Priority) (x : Stage) → lane ≢ q
         → is_probed lane (probe_answered q x) ≡ true → is_probed lane x ≡ true
@@ -389,6 +459,14 @@ probed_step l link lives unit m j t s calm k = record {
     still_probed High Low AskingAlarms ne p = p
     still_probed Low High (GatheringRows expected next) ne p = p
     still_probed High Low (GatheringRows expected next) ne p = p
+    still_probed Low High (StartingImage order asked image) ne p = p
+    still_probed High Low (StartingImage order asked image) ne p = p
+    still_probed Low High (SendingImage order outgoing resent) ne p = p
+    still_probed High Low (SendingImage order outgoing resent) ne p = p
+    still_probed Low High (EndingImage order image busy) ne p = p
+    still_probed High Low (EndingImage order image busy) ne p = p
+    still_probed Low High (DelayingEnd order image busy) ne p = p
+    still_probed High Low (DelayingEnd order image busy) ne p = p
 
     still_asked : (q : Priority) (x : Stage) → has_asked x ≡ has_asked (probe_answered q x)
     still_asked Low (Probing high low) = refl
@@ -401,6 +479,14 @@ probed_step l link lives unit m j t s calm k = record {
     still_asked High AskingAlarms = refl
     still_asked Low (GatheringRows expected next) = refl
     still_asked High (GatheringRows expected next) = refl
+    still_asked Low (StartingImage order asked image) = refl
+    still_asked High (StartingImage order asked image) = refl
+    still_asked Low (SendingImage order outgoing resent) = refl
+    still_asked High (SendingImage order outgoing resent) = refl
+    still_asked Low (EndingImage order image busy) = refl
+    still_asked High (EndingImage order image busy) = refl
+    still_asked Low (DelayingEnd order image busy) = refl
+    still_asked High (DelayingEnd order image busy) = refl
 
     still_left : (q : Priority) (x : Stage) → left_of x ≡ left_of (probe_answered q x)
     still_left Low (Probing high low) = refl
@@ -413,6 +499,14 @@ probed_step l link lives unit m j t s calm k = record {
     still_left High AskingAlarms = refl
     still_left Low (GatheringRows expected next) = refl
     still_left High (GatheringRows expected next) = refl
+    still_left Low (StartingImage order asked image) = refl
+    still_left High (StartingImage order asked image) = refl
+    still_left Low (SendingImage order outgoing resent) = refl
+    still_left High (SendingImage order outgoing resent) = refl
+    still_left Low (EndingImage order image busy) = refl
+    still_left High (EndingImage order image busy) = refl
+    still_left Low (DelayingEnd order image busy) = refl
+    still_left High (DelayingEnd order image busy) = refl
 
 pub probed_steady : (l : Priority) (link : Link) (lives : ℕ) (unit : Option Onu) (m : Manager)
     (t : Told)
@@ -421,7 +515,31 @@ pub probed_steady : (l : Priority) (link : Link) (lives : ℕ) (unit : Option On
     → Steady link lives unit (record m { job = job_probed l m.job }) t
 probed_steady l link lives unit m t calm h =
     rejob_steady link lives unit m (job_probed l m.job) t h (λ x e. go m.job refl x e)
+    (λ w o x. still l m.job w.command x)
   where
+    still : (q : Priority) (o : Option Stage) (c : Command) → AtCommand o c
+        → AtCommand (job_probed q o) c
+    still Low None c x = absurd x
+    still Low (Some (Probing high low)) c x = absurd x
+    still Low (Some Asking) c x = absurd x
+    still Low (Some (Gathering expected next copy)) c x = absurd x
+    still Low (Some AskingAlarms) c x = absurd x
+    still Low (Some (GatheringRows expected next)) c x = absurd x
+    still Low (Some (StartingImage order asked image)) c x = x
+    still Low (Some (SendingImage order outgoing resent)) c x = absurd x
+    still Low (Some (EndingImage order image busy)) c x = x
+    still Low (Some (DelayingEnd order image busy)) c x = absurd x
+    still High None c x = absurd x
+    still High (Some (Probing high low)) c x = absurd x
+    still High (Some Asking) c x = absurd x
+    still High (Some (Gathering expected next copy)) c x = absurd x
+    still High (Some AskingAlarms) c x = absurd x
+    still High (Some (GatheringRows expected next)) c x = absurd x
+    still High (Some (StartingImage order asked image)) c x = x
+    still High (Some (SendingImage order outgoing resent)) c x = absurd x
+    still High (Some (EndingImage order image busy)) c x = x
+    still High (Some (DelayingEnd order image busy)) c x = absurd x
+
     go : (o : Option Stage) → m.job ≡ o → (x : Stage) → job_probed l o ≡ Some x
         → AtStep link lives unit (record m { job = job_probed l m.job }) t x
     go None e x f = absurd (cc)
@@ -447,6 +565,10 @@ module _ (link : Link) (lives : ℕ) (unit : Option Onu) (m : Manager) (t : Told
       probed High (Gathering expected next copy) a = refl
       probed q AskingAlarms a = absurd (false≢true a)
       probed q (GatheringRows expected next) a = absurd (false≢true a)
+      probed q (StartingImage order asked image) a = absurd (false≢true a)
+      probed q (SendingImage order outgoing resent) a = absurd (false≢true a)
+      probed q (EndingImage order image busy) a = absurd (false≢true a)
+      probed q (DelayingEnd order image busy) a = absurd (false≢true a)
 
   all_quiet : (lane : Priority) (w : Waiting) → out_in lane m ≡ Some w
       → is_changing w.command.request ≡ false

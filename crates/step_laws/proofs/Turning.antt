@@ -10,7 +10,7 @@ use Rattle.tci_spec.specs.Tci.{priority_of}
 use Rattle.frame_spec.specs.Baseline.{packet_frame}
 use Rattle.message_spec.specs.declared.Response.{Response}
 use Rattle.message_spec.specs.Reading.{message_of}
-use Rattle.lane_spec.specs.Command.{is_changing, answers}
+use Rattle.lane_spec.specs.Command.{Command, is_changing, answers}
 use Rattle.lane_spec.specs.Lane.{Lane, Waiting, end_command, reply_by, reply_to, lane_reply}
 use Rattle.lane_spec.specs.Lane.{Replied}
 use Rattle.manager_spec.specs.declared.Phase.{Phase}
@@ -20,21 +20,24 @@ use Rattle.manager_spec.specs.declared.ResyncReason.TheVariants as reason
 use Rattle.manager_spec.specs.declared.Report.{Report}
 use Rattle.manager_spec.specs.declared.Report.TheVariants as report
 use Rattle.manager_spec.specs.Manager.{Stage, Manager, Outcome, lane_in, with_lane, with_report}
-use Rattle.manager_spec.specs.Manager.{phase_left, leave_step, and_then}
+use Rattle.manager_spec.specs.Manager.{phase_left, leave_step, and_then, Probing, Asking, Gathering}
+use Rattle.manager_spec.specs.Manager.{AskingAlarms, GatheringRows}
+use Rattle.manager_spec.specs.Manager.{StartingImage, SendingImage, EndingImage, DelayingEnd}
 use Rattle.manager_spec.specs.declared.AuditReason.{AuditReason}
 use Rattle.manager_spec.specs.declared.AuditReason.TheVariants as audit
-use Rattle.manager_spec.specs.declared.Job.{Job}
-use Rattle.manager_spec.specs.declared.Job.TheVariants as jobs
+use Rattle.manager_spec.specs.declared.ImageReason.{ImageReason}
+use Rattle.manager_spec.specs.declared.ImageReason.TheVariants as image_reason
 use Rattle.manager_spec.specs.Resync.{resync_failed}
+use Rattle.manager_spec.specs.Upgrade.{image_failed}
 use Rattle.manager_spec.specs.Audit.{audit_failed}
-use Rattle.manager_spec.specs.Jobs.{job_of, lost_by, job_lost, job_goes_on}
+use Rattle.manager_spec.specs.Jobs.{job_lost, job_goes_on}
 use Rattle.manager_spec.specs.Steps.{code_of, first_value, expected_counter, compared}
 use Rattle.manager_spec.specs.Steps.{counters_compared, checked_if, checked_by, loss_seen, taken_as}
 use Rattle.manager_spec.specs.Steps.{packet_dropped, not_taken, take_if, frame_came, for_frame}
 use Rattle.manager_spec.specs.Steps.{after_packet}
 use Rattle.resync_laws.proofs.Taking.{fails, mild_leave}
-use Rattle.step_laws.proofs.Parts.{lane_at, out_in}
-use Rattle.step_laws.proofs.Milder.{Waited, Fewer, Milder}
+use Rattle.step_laws.proofs.Parts.{lane_at, out_in, is_image, AtCommand}
+use Rattle.step_laws.proofs.Milder.{Waited, Fewer, KeepsCommand, Milder}
 
 -- ---- lanes
 
@@ -107,13 +110,14 @@ pub milder_of : (m a : Manager) → LaneMild (a.phase ≡ phase.InStep) m.low a.
     → LaneMild (a.phase ≡ phase.InStep) m.high a.high
     → ((s : Stage) → a.job ≡ Some s → m.job ≡ Some s)
     → (a.phase ≡ phase.InStep → m.phase ≡ phase.InStep) → (a.phase ≡ phase.InStep → a.copy ≡ m.copy)
-    → Milder m a
-milder_of m a low high job was copy = record {
+    → (a.phase ≡ phase.InStep → KeepsCommand m.job a.job) → Milder m a
+milder_of m a low high job was copy command = record {
   fewer = fewer_of (a.phase ≡ phase.InStep) m a low high;
   job = job;
   kept = kept_by;
   was = was;
   copy = copy;
+  command = command;
 }
   where
     kept_by : (lane : Priority) (w : Waiting) → a.phase ≡ phase.InStep → out_in lane m ≡ Some w
@@ -131,9 +135,17 @@ pub record Like (m a : Manager) : Type 0 where
   pub job : (s : Stage) → a.job ≡ Some s → m.job ≡ Some s
   pub was : a.phase ≡ phase.InStep → m.phase ≡ phase.InStep
   pub copy : a.phase ≡ phase.InStep → a.copy ≡ m.copy
+  pub command : a.phase ≡ phase.InStep → KeepsCommand m.job a.job
 
 pub like_same : (m : Manager) → Like m m
-like_same m = record { low = refl; high = refl; job = λ s e. e; was = λ e. e; copy = λ e. refl }
+like_same m = record {
+  low = refl;
+  high = refl;
+  job = λ s e. e;
+  was = λ e. e;
+  copy = λ e. refl;
+  command = λ e c h. h;
+}
 
 pub like_then : (m a b : Manager) → Like m a → Like a b → Like m b
 like_then m a b h k = record {
@@ -142,10 +154,18 @@ like_then m a b h k = record {
   job = λ s e. h.job s (k.job s e);
   was = λ e. h.was (k.was e);
   copy = λ e. k.copy e ∙ h.copy (k.was e);
+  command = λ e c x. k.command e c (h.command (k.was e) c x);
 }
 
 pub like_report : (r : Report) (m : Manager) → Like m (with_report r m)
-like_report r m = record { low = refl; high = refl; job = λ s e. e; was = λ e. e; copy = λ e. refl }
+like_report r m = record {
+  low = refl;
+  high = refl;
+  job = λ s e. e;
+  was = λ e. e;
+  copy = λ e. refl;
+  command = λ e c h. h;
+}
 
 -- a manager that leaves the step isn't in step
 left_out : (p : Phase) (m : Manager) → m.phase ≡ p → (phase_left p m).phase ≡ phase.InStep → ⊥
@@ -163,24 +183,32 @@ like_leave m = let k = mild_leave m in record {
   job = λ s e. sym k.job ∙ e;
   was = λ e. absurd (leave_out m e);
   copy = λ e. absurd (leave_out m e);
+  command = λ e. absurd (leave_out m e);
 }
+
+pub failed_out : (why : ResyncReason) (m : Manager) → (resync_failed why m).phase ≡ phase.InStep → ⊥
+failed_out why m e = cc
 
 pub like_failed : (why : ResyncReason) (m : Manager) → Like m (resync_failed why m)
 like_failed why m = let k = fails why m in record {
   low = k.low;
   high = k.high;
   job = λ s e. absurd (let j = k.job in cc);
-  was = λ e. absurd (cc);
-  copy = λ e. absurd (cc);
+  was = λ e. absurd (failed_out why m e);
+  copy = λ e. absurd (failed_out why m e);
+  command = λ e. absurd (failed_out why m e);
 }
 
-pub like_unaudited : (why : AuditReason) (m : Manager) → Like m (audit_failed why m)
-like_unaudited why m = record {
+-- an audit, and no download, runs
+pub like_unaudited : (why : AuditReason) (m : Manager)
+    → ((c : Command) → AtCommand m.job c → ⊥) → Like m (audit_failed why m)
+like_unaudited why m other = record {
   low = refl;
   high = refl;
   job = λ s e. absurd (cc);
   was = λ e. e;
   copy = λ e. refl;
+  command = λ e c h. absurd (other c h);
 }
 
 like_compared : (b : Bool) (m : Manager) → Like m (compared b m)
@@ -212,7 +240,7 @@ like_milder m a k =
     milder_of m a (subst (LaneMild (a.phase ≡ phase.InStep) m.low) (sym k.low)
     (lane_still (a.phase ≡ phase.InStep) m.low))
     (subst (LaneMild (a.phase ≡ phase.InStep) m.high) (sym k.high)
-    (lane_still (a.phase ≡ phase.InStep) m.high)) k.job k.was k.copy
+    (lane_still (a.phase ≡ phase.InStep) m.high)) k.job k.was k.copy k.command
 
 -- ---- a lane's command ends, and then that
 
@@ -224,13 +252,13 @@ over_milder Low w proved m a e k mild =
     (subst (LaneMild (a.phase ≡ phase.InStep) m.low) (sym k.low)
     (lane_ended (a.phase ≡ phase.InStep) m.low w proved e mild))
     (subst (LaneMild (a.phase ≡ phase.InStep) m.high) (sym k.high)
-    (lane_still (a.phase ≡ phase.InStep) m.high)) k.job k.was k.copy
+    (lane_still (a.phase ≡ phase.InStep) m.high)) k.job k.was k.copy k.command
 over_milder High w proved m a e k mild =
     milder_of m a
     (subst (LaneMild (a.phase ≡ phase.InStep) m.low) (sym k.low)
     (lane_still (a.phase ≡ phase.InStep) m.low))
     (subst (LaneMild (a.phase ≡ phase.InStep) m.high) (sym k.high)
-    (lane_ended (a.phase ≡ phase.InStep) m.high w proved e mild)) k.job k.was k.copy
+    (lane_ended (a.phase ≡ phase.InStep) m.high w proved e mild)) k.job k.was k.copy k.command
 
 -- ---- a give-up
 
@@ -238,19 +266,74 @@ pub record Lost (changes : Bool) (m a : Manager) : Type 0 where
   pub like : Like m a
   pub mild : a.phase ≡ phase.InStep → changes ≡ false
 
-like_lost_by : (job : Job) (tci : ℕ) (m : Manager) → Like m (lost_by job tci m)
-like_lost_by jobs.Resync tci m = like_failed (reason.GaveUp tci) m
-like_lost_by jobs.Audit tci m = like_unaudited (audit.GaveUp tci) m
+image_lost : (why : ImageReason) (m : Manager) → Like m (leave_step (image_failed why m))
+image_lost why m =
+    let x : Manager = image_failed why m in
+    let k = mild_leave x in
+    record {
+      low = k.low;
+      high = k.high;
+      job = λ s e. absurd (let j = k.job in cc);
+      was = λ e. absurd (leave_out x e);
+      copy = λ e. absurd (leave_out x e);
+      command = λ e. absurd (leave_out x e);
+    }
 
-like_lost : (job : Option Stage) (tci : ℕ) (m : Manager) → Like m (job_lost job tci m)
-like_lost None tci m = like_same m
-like_lost (Some s) tci m = like_lost_by (job_of s) tci m
+no_command : (s : Stage) (m : Manager) → m.job ≡ Some s → is_image s ≡ false → (c : Command)
+    → AtCommand m.job c → ⊥
+no_command (Probing high low) m e f c h = subst (λ j. AtCommand j c) e h
+no_command Asking m e f c h = subst (λ j. AtCommand j c) e h
+no_command (Gathering expected next copy) m e f c h = subst (λ j. AtCommand j c) e h
+no_command AskingAlarms m e f c h = subst (λ j. AtCommand j c) e h
+no_command (GatheringRows expected next) m e f c h = subst (λ j. AtCommand j c) e h
+no_command (StartingImage order asked image) m e f c h = false≢true (sym f)
+no_command (SendingImage order outgoing resent) m e f c h = false≢true (sym f)
+no_command (EndingImage order image busy) m e f c h = false≢true (sym f)
+no_command (DelayingEnd order image busy) m e f c h = false≢true (sym f)
 
-pub lost : (waits changes : Bool) (tci : ℕ) (m : Manager) → (waits ≡ true → changes ≡ false)
+-- the job that runs is lost; a download leaves the step with it
+lost_at : (job : Option Stage) (changes : Bool) (tci : ℕ) (m : Manager) → m.job ≡ job
+    → ((s : Stage) → job ≡ Some s → is_image s ≡ false → changes ≡ false)
+    → (job ≡ None → changes ≡ false) → Lost changes m (job_lost job tci m)
+lost_at None changes tci m e f g = record { like = like_same m; mild = λ p. g refl }
+lost_at (Some (Probing high low)) changes tci m e f g =
+    record { like = like_failed (reason.GaveUp tci) m; mild = λ p. f _ refl refl }
+lost_at (Some Asking) changes tci m e f g =
+    record { like = like_failed (reason.GaveUp tci) m; mild = λ p. f _ refl refl }
+lost_at (Some (Gathering expected next copy)) changes tci m e f g =
+    record { like = like_failed (reason.GaveUp tci) m; mild = λ p. f _ refl refl }
+lost_at (Some AskingAlarms) changes tci m e f g = record {
+  like = like_unaudited (audit.GaveUp tci) m (no_command AskingAlarms m e refl);
+  mild = λ p. f _ refl refl;
+}
+lost_at (Some (GatheringRows expected next)) changes tci m e f g = record {
+  like = like_unaudited (audit.GaveUp tci) m (no_command (GatheringRows expected next) m e refl);
+  mild = λ p. f _ refl refl;
+}
+lost_at (Some (StartingImage order asked image)) changes tci m e f g = record {
+  like = image_lost (image_reason.GaveUp tci) m;
+  mild = λ p. absurd (leave_out (image_failed (image_reason.GaveUp tci) m) p);
+}
+lost_at (Some (SendingImage order outgoing resent)) changes tci m e f g = record {
+  like = image_lost (image_reason.GaveUp tci) m;
+  mild = λ p. absurd (leave_out (image_failed (image_reason.GaveUp tci) m) p);
+}
+lost_at (Some (EndingImage order image busy)) changes tci m e f g = record {
+  like = image_lost (image_reason.GaveUp tci) m;
+  mild = λ p. absurd (leave_out (image_failed (image_reason.GaveUp tci) m) p);
+}
+lost_at (Some (DelayingEnd order image busy)) changes tci m e f g = record {
+  like = image_lost (image_reason.GaveUp tci) m;
+  mild = λ p. absurd (leave_out (image_failed (image_reason.GaveUp tci) m) p);
+}
+
+pub lost : (waits changes : Bool) (tci : ℕ) (m : Manager)
+    → (waits ≡ true → (s : Stage) → m.job ≡ Some s → is_image s ≡ false → changes ≡ false)
+    → (waits ≡ true → m.job ≡ None → changes ≡ false)
     → Lost changes m (loss_seen waits changes tci m)
-lost true changes tci m h = record { like = like_lost m.job tci m; mild = λ e. h refl }
-lost false true tci m h = record { like = like_leave m; mild = λ e. absurd (leave_out m e) }
-lost false false tci m h = record { like = like_same m; mild = λ e. refl }
+lost true changes tci m f g = lost_at m.job changes tci m refl (f refl) (g refl)
+lost false true tci m f g = record { like = like_leave m; mild = λ e. absurd (leave_out m e) }
+lost false false tci m f g = record { like = like_same m; mild = λ e. refl }
 
 -- ---- a packet that comes is a reply that is taken, or answers nothing
 
@@ -261,6 +344,7 @@ pub record IsTaken (bytes : List ℕ) (m : Manager) (o : Outcome) : Type 0 where
   pub read : packet_frame bytes ≡ Some frame
   pub waits : (lane_in lane m).outstanding ≡ Some waiting
   pub tci : frame.tci ≡ waiting.tci
+  pub answered : answers waiting.tci waiting.command frame ≡ true
   pub in_lane : priority_of frame.tci ≡ lane
   pub is : o ≡ and_then
       (taken_as waiting.command.purpose lane waiting.command frame
@@ -301,6 +385,7 @@ module _ (bytes : List ℕ) (f : Frame) (read : packet_frame bytes ≡ Some f) (
         read = read;
         waits = e;
         tci = eqb-true f.tci w.tci (and_parts (eqb f.tci w.tci) _ a).0;
+        answered = a;
         in_lane = l;
         is = ap (λ (r : Replied). take_if r.taken (lane_in lane m).outstanding lane f m) is
             ∙ ap (λ o. take_if true o lane f m) e

@@ -1,5 +1,5 @@
 -- What is asked of the manager, and a second.
-use Rattle.std.proofs.Common.{◌≡◌, ◌≢◌, ℕ, ◌+◌, ◌<◌, ◌^◌, Bool, true, false, if◌then◌else◌, List}
+use Rattle.std.proofs.Common.{◌≡◌, ◌≢◌, ℕ, ◌+◌, ◌<◌, ◌^◌, Bool, true, false, not, if◌then◌else◌, List, inl}
 use Rattle.std.proofs.Common.{[], ◌∷◌, ◌++◌, map, Option, Some, None, refl, sym, ap, subst, ◌∙◌}
 use Rattle.std.proofs.Common.{nat_le, nat_lt}
 use Rattle.std.proofs.lemmas.Option.{same_Some}
@@ -13,21 +13,26 @@ use Rattle.message_spec.specs.declared.Request.TheVariants as request
 use Rattle.link_spec.specs.Link.{Link}
 use Rattle.lane_spec.specs.declared.TheConstants.{MOST_REPEATS}
 use Rattle.lane_spec.specs.Command.{Command, probe_command, check_command, ask, is_changing}
-use Rattle.lane_spec.specs.Lane.{Waiting, next_tci, timeout_of, tick_by, tick_waiting, lane_tick}
+use Rattle.lane_spec.specs.Command.{command_packets}
+use Rattle.lane_spec.specs.declared.LaneTick.TheVariants.{Repeat}
+use Rattle.lane_spec.specs.Lane.{Lane, Waiting, next_tci, timeout_of, tick_by, tick_waiting, lane_tick}
 use Rattle.manager_spec.specs.declared.Phase.TheVariants as phase
 use Rattle.manager_spec.specs.declared.Refusal.{Refusal}
 use Rattle.manager_spec.specs.declared.Refusal.TheVariants.{ChangeOutstanding}
 use Rattle.manager_spec.specs.declared.Report.TheVariants as report
 use Rattle.manager_spec.specs.Manager.{Stage, Probing, Asking, Gathering, AskingAlarms}
 use Rattle.manager_spec.specs.Manager.{GatheringRows, Manager, Outcome, lane_in, with_lane}
-use Rattle.manager_spec.specs.Manager.{with_report, and_then, command_sent}
+use Rattle.manager_spec.specs.Manager.{with_report, and_then, command_sent, Order}
+use Rattle.manager_spec.specs.Manager.{StartingImage, SendingImage, EndingImage, DelayingEnd}
+use Rattle.manager_spec.specs.Upgrade.{start_command}
 use Rattle.manager_spec.specs.Resync.{with_job}
-use Rattle.manager_spec.specs.Jobs.{waits_for}
+use Rattle.manager_spec.specs.Jobs.{waits_for, resumed_by, job_resumes}
 use Rattle.manager_spec.specs.Submitting.{unproven, occupied, job_running, out_of_step, goes_beside}
 use Rattle.manager_spec.specs.Submitting.{job_in_the_way, changing_by, other_change, second_change}
 use Rattle.manager_spec.specs.Submitting.{first_refusal, probe_refusal, needs_copy, submit_refusal}
 use Rattle.manager_spec.specs.Submitting.{leaves_copy, leave_if, check_refusal, resync_refusal}
-use Rattle.manager_spec.specs.Submitting.{resync_begun, audit_refusal, audit_asked}
+use Rattle.manager_spec.specs.Submitting.{resync_begun, audit_refusal, audit_asked, image_refusal}
+use Rattle.manager_spec.specs.Submitting.{image_asked}
 use Rattle.manager_spec.specs.Steps.{loss_seen, lane_ticked, tick_lane, after_tick}
 use Rattle.unit_spec.specs.Onu.{Onu}
 use Rattle.alarm_spec.specs.Alarms.{Alarm}
@@ -37,23 +42,33 @@ use Rattle.resync_laws.proofs.Reading.{is_plain}
 use Rattle.resync_laws.proofs.Telling.{NoneSynced}
 use Rattle.resync_laws.proofs.Taking.{mild_leave}
 use Rattle.resync_laws.proofs.Turns.{two_none, three_none, five_none, not_occupied, not_running}
-use Rattle.resync_laws.proofs.Turns.{lane_quiet, lane_taken, lane_noticed}
+use Rattle.resync_laws.proofs.Turns.{lane_quiet, lane_taken, lane_noticed, resume_silent}
 use Rattle.step_laws.proofs.Reading.{IsExact}
 use Rattle.step_laws.proofs.Coming.{Coming}
 use Rattle.step_laws.proofs.Parts.{lane_at, out_in, IsCalm, AtStep, Steady, is_probed, is_barred}
+use Rattle.step_laws.proofs.Parts.{is_image, AtCommand}
 use Rattle.step_laws.proofs.Milder.{milder_steady, rejob_steady}
-use Rattle.step_laws.proofs.Sending.{next_fits, again_steady}
+use Rattle.step_laws.proofs.Sending.{next_fits, sends_all}
 use Rattle.step_laws.proofs.Turning.{lane_still, lane_later, milder_of, Like, like_same, like_then}
 use Rattle.step_laws.proofs.Turning.{like_report, leave_out, like_leave, like_milder, over_milder}
 use Rattle.step_laws.proofs.Turning.{lost}
 use Rattle.step_laws.proofs.Going.{StepsTo, SendsTo, steps_quiet, sends_both, send_steady}
-use Rattle.step_laws.proofs.Going.{asks_alarms}
+use Rattle.step_laws.proofs.Going.{asks_alarms, sends_once, sends_counted, image_step, image_quiet, goes_on}
 
 pub out_is : (lane : Priority) (m : Manager) → (lane_in lane m).outstanding ≡ out_in lane m
 out_is Low m = refl
 out_is High m = refl
 
 -- ---- refusals
+
+-- all of four but the first
+four_all : (a b c d : Option Refusal) → first_refusal (a ∷ b ∷ c ∷ d ∷ []) ≡ None
+    → (b ≡ None) × (c ≡ None) × (d ≡ None)
+four_all None None None None e = (refl, refl, refl)
+four_all None None None (Some d) e = absurd (cc)
+four_all None None (Some c) d e = absurd (cc)
+four_all None (Some b) c d e = absurd (cc)
+four_all (Some a) b c d e = absurd (cc)
 
 -- the last of five
 five_last : (a b c d e : Option Refusal) → first_refusal (a ∷ b ∷ c ∷ d ∷ e ∷ []) ≡ None → e ≡ None
@@ -101,6 +116,8 @@ beside_mild High request.Reset e = absurd (false≢true e)
 beside_mild High request.Commit e = absurd (false≢true e)
 beside_mild High (request.Activate flags) e = absurd (false≢true e)
 beside_mild High (request.Reboot flags) e = absurd (false≢true e)
+beside_mild High (request.Start window size targets target) e = absurd (false≢true e)
+beside_mild High (request.End check size targets target) e = absurd (false≢true e)
 beside_mild High _ e = refl
 
 job_mild : (lane : Priority) (r : Request) (m : Manager) (s : Stage)
@@ -156,7 +173,8 @@ module _ (m : Manager) (link : Link) (lives : ℕ) (unit : Option Onu) (t : Told
       (send_steady High probe_command link lives unit begun t
       (rejob_steady link lives unit m (Some (Probing true true)) t h
       (λ s f. subst (AtStep link lives unit begun t) (same_Some (Probing true true) s f)
-      (begins k.0 k.1)))
+      (begins k.0 k.1))
+      (λ w o x. absurd (subst (λ j. AtCommand j w.command) (not_running m.job k.2) x)))
       (free_of High k.0) (λ c. absurd (false≢true c)) (λ s f. refl))
       (λ l u g. send_steady Low probe_command l lives unit
       (command_sent false High probe_command begun).manager u g (free_of Low k.1)
@@ -187,7 +205,19 @@ module _ (m : Manager) (link : Link) (lives : ℕ) (unit : Option Onu) (t : Told
   audit_steps e =
       let k = three_none (unproven Low m) (occupied Low m) (job_running m) e in
       steps_quiet (audit_asked m) link lives unit t t refl none_told
-      (asks_alarms link lives unit m t h (free_of Low k.1))
+      (asks_alarms link lives unit m t h (free_of Low k.1) (not_running m.job k.2))
+
+  -- ---- a download
+
+  pub image_steps : (order : Order) (asked : ℕ) (image : List ℕ) → image_refusal m ≡ None
+      → StepsTo (image_asked order asked image m) link lives unit t
+  image_steps order asked image e =
+      let s : Stage = StartingImage order asked image in
+      let k = four_all (unproven Low m) (occupied Low m) (job_running m) (other_change Low m) e in
+      steps_quiet (image_asked order asked image m) link lives unit t t refl none_told
+      (sends_counted link lives unit m t h s (start_command order asked image) refl refl
+      (free_of Low k.0) (λ w o. no_change m.high.outstanding w k.2 o)
+      (λ c x. absurd (subst (λ j. AtCommand j c) (not_running m.job k.1) x)))
 
   -- ---- a request for an entity
 
@@ -231,13 +261,13 @@ module _ (m : Manager) (link : Link) (lives : ℕ) (unit : Option Onu) (t : Told
         send_steady lane (ask entity r) link lives unit a t like_steady
         (like_out lane ∙ free_of lane q.0)
         (λ c. record {
-          followed = λ p. record {
+          followed = λ p. inl (record {
             submitted = refl;
             plainly = plainly;
             stays = g p;
-            exact =
-                exact c _ tci_fits;
-          };
+            exact = exact c _ tci_fits;
+            single = refl;
+          });
           alone = λ x v ne o. alone r lane m c last x v ne (sym (like_out x) ∙ o);
         })
         (λ s f. job_mild lane r m s q.1 (k.job s f))
@@ -262,7 +292,7 @@ module _ (m : Manager) (link : Link) (lives : ℕ) (unit : Option Onu) (t : Told
       let x : Manager = record m { low = record m.low { outstanding = Some v } } in
       milder_steady link lives unit m x t
       (milder_of m x (lane_later (x.phase ≡ phase.InStep) m.low w v e a b)
-      (lane_still (x.phase ≡ phase.InStep) m.high) (λ s j. j) (λ p. p) (λ p. refl)) h
+      (lane_still (x.phase ≡ phase.InStep) m.high) (λ s j. j) (λ p. p) (λ p. refl) (λ p c y. y)) h
 
   later_high : (w v : Waiting) → m.high.outstanding ≡ Some w → v.tci ≡ w.tci → v.command ≡ w.command
       → Steady link lives unit (record m { high = record m.high { outstanding = Some v } }) t
@@ -270,24 +300,36 @@ module _ (m : Manager) (link : Link) (lives : ℕ) (unit : Option Onu) (t : Told
       let x : Manager = record m { high = record m.high { outstanding = Some v } } in
       milder_steady link lives unit m x t
       (milder_of m x (lane_still (x.phase ≡ phase.InStep) m.low)
-      (lane_later (x.phase ≡ phase.InStep) m.high w v e a b) (λ s j. j) (λ p. p) (λ p. refl)) h
+      (lane_later (x.phase ≡ phase.InStep) m.high w v e a b) (λ s j. j) (λ p. p) (λ p. refl) (λ p c y. y)) h
 
   waits_barred : (lane : Priority) (s : Stage) → waits_for lane (Some s) ≡ true
-      → is_barred lane s ≡ true
-  waits_barred Low s e = refl
-  waits_barred High (Probing high low) e = refl
-  waits_barred High Asking e = refl
-  waits_barred High (Gathering expected next copy) e = refl
-  waits_barred High AskingAlarms e = e
-  waits_barred High (GatheringRows expected next) e = e
+      → is_image s ≡ false → is_barred lane s ≡ true
+  waits_barred Low s e f = ap not f
+  waits_barred High (Probing high low) e f = refl
+  waits_barred High Asking e f = refl
+  waits_barred High (Gathering expected next copy) e f = refl
+  waits_barred High AskingAlarms e f = absurd (false≢true e)
+  waits_barred High (GatheringRows expected next) e f = absurd (false≢true e)
+  waits_barred High (StartingImage order asked image) e f = absurd (false≢true e)
+  waits_barred High (SendingImage order outgoing resent) e f = absurd (false≢true e)
+  waits_barred High (EndingImage order image busy) e f = absurd (false≢true e)
+  waits_barred High (DelayingEnd order image busy) e f = absurd (false≢true e)
 
-  -- the job waits for no change
-  waited_mild : (lane : Priority) (w : Waiting) (job : Option Stage) → m.job ≡ job
-      → waits_for lane job ≡ true
+  none_waits : (lane : Priority) (job : Option Stage) → job ≡ None → waits_for lane job ≡ true → ⊥
+  none_waits lane None e f = false≢true f
+  none_waits lane (Some s) e f = cc
+
+  -- the job waits for no change, unless it is a download
+  waited_mild : (lane : Priority) (w : Waiting) (s : Stage) → m.job ≡ Some s
+      → waits_for lane m.job ≡ true → is_image s ≡ false
       → out_in lane m ≡ Some w → is_changing w.command.request ≡ false
-  waited_mild Low w None e f g = absurd (false≢true f)
-  waited_mild High w None e f g = absurd (false≢true f)
-  waited_mild lane w (Some s) e f g = (h.job s e).quiet lane w (waits_barred lane s f) g
+  waited_mild lane w s e f g o =
+      (h.job s e).quiet lane w
+      (waits_barred lane s (sym (ap (waits_for lane) e) ∙ f) g) o
+
+  given_job : (lane : Priority) (x : Lane) → (with_lane lane x m).job ≡ m.job
+  given_job Low x = refl
+  given_job High x = refl
 
   give_up : (lane : Priority) (w : Waiting) → out_in lane m ≡ Some w
       → Steady link lives unit (loss_seen (waits_for lane m.job)
@@ -295,12 +337,14 @@ module _ (m : Manager) (link : Link) (lives : ℕ) (unit : Option Onu) (t : Told
       (with_report (report.GaveUp w.tci)
       (with_lane lane (record (lane_in lane m) { proved = false; outstanding = None }) m))) t
   give_up lane w e =
-      let x : Manager = with_lane lane (record
-      (lane_in lane m) { proved = false; outstanding = None }) m in
+      let l : Lane = record (lane_in lane m) { proved = false; outstanding = None } in
+      let x : Manager = with_lane lane l m in
       let y : Manager = with_report (report.GaveUp w.tci) x in
       let z : Manager = loss_seen (waits_for lane m.job) (is_changing w.command.request) w.tci y in
+      let same = given_job lane l in
       let k = lost (waits_for lane m.job) (is_changing w.command.request) w.tci y
-      (λ f. waited_mild lane w m.job refl f e) in
+      (λ f s j g. waited_mild lane w s (sym same ∙ j) f g e)
+      (λ f j. absurd (none_waits lane m.job (sym same ∙ j) f)) in
       milder_steady link lives unit m z t
       (over_milder lane w false m z e (like_then x y z (like_report (report.GaveUp w.tci) x) k.like)
       k.mild) h
@@ -311,9 +355,10 @@ module _ (m : Manager) (link : Link) (lives : ℕ) (unit : Option Onu) (t : Told
   low_by w e false may = later_low w (record w { ticks = w.ticks + 1 }) e refl refl
   low_by w e true true =
       let v : Waiting = record w { ticks = 0; repeats = w.repeats + 1 } in
-      again_steady Low v link lives unit
-      (record m { low = record m.low { outstanding = Some v } }) t
-      (later_low w v e refl refl) refl
+      let a : Manager = record m { low = record m.low { outstanding = Some v } } in
+      sends_once (lane_ticked Repeat Low (Some w) (record m.low { outstanding = Some v }) m) Low false
+      false (command_packets w.tci w.command) link lives unit t t refl refl
+      (sends_all Low v link lives unit a t (later_low w v e refl refl) refl)
   low_by w e true false = give_up Low w e
 
   high_by : (w : Waiting) → m.high.outstanding ≡ Some w → (over may : Bool)
@@ -322,9 +367,10 @@ module _ (m : Manager) (link : Link) (lives : ℕ) (unit : Option Onu) (t : Told
   high_by w e false may = later_high w (record w { ticks = w.ticks + 1 }) e refl refl
   high_by w e true true =
       let v : Waiting = record w { ticks = 0; repeats = w.repeats + 1 } in
-      again_steady High v link lives unit
-      (record m { high = record m.high { outstanding = Some v } }) t
-      (later_high w v e refl refl) refl
+      let a : Manager = record m { high = record m.high { outstanding = Some v } } in
+      sends_once (lane_ticked Repeat High (Some w) (record m.high { outstanding = Some v }) m) High false
+      false (command_packets w.tci w.command) link lives unit t t refl refl
+      (sends_all High v link lives unit a t (later_high w v e refl refl) refl)
   high_by w e true false = give_up High w e
 
   tick_by_waiting : (lane : Priority) (o : Option Waiting) → (lane_in lane m).outstanding ≡ o
@@ -341,21 +387,49 @@ module _ (m : Manager) (link : Link) (lives : ℕ) (unit : Option Onu) (t : Told
   unfolding lane_tick
   lane_ticks lane = tick_by_waiting lane (lane_in lane m).outstanding refl
 
+-- ---- the job after a second
+
+-- a delayed end is sent anew
+end_rejobbed : (order : Order) (image : List ℕ) (busy : ℕ) (m : Manager) (link : Link) (lives : ℕ)
+    (unit : Option Onu) (t : Told) → Steady link lives unit m t
+    → m.job ≡ Some (DelayingEnd order image busy)
+    → Steady link lives unit (with_job (Some (EndingImage order image busy)) m) t
+end_rejobbed order image busy m link lives unit t h e =
+    let x : Stage = EndingImage order image busy in
+    let before : Stage = DelayingEnd order image busy in
+    rejob_steady link lives unit m (Some x) t h
+    (λ s f. subst (AtStep link lives unit (with_job (Some x) m) t) (same_Some x s f)
+    (image_step x link lives unit (with_job (Some x) m) t refl
+    (image_quiet before link lives unit m t refl (h.job before e))))
+    (λ w o y. absurd (subst (λ j. AtCommand j w.command) e y))
+
+resume_steps : (job : Option Stage) (m : Manager) (link : Link) (lives : ℕ) (unit : Option Onu)
+    (t : Told) → m.job ≡ job → Steady link lives unit m t
+    → SendsTo (resumed_by job m) link lives unit t
+resume_steps (Some (DelayingEnd order image busy)) m link lives unit t e h =
+    goes_on link lives unit (with_job (Some (EndingImage order image busy)) m) t
+    (end_rejobbed order image busy m link lives unit t h e)
+resume_steps None m link lives unit t e h = h
+resume_steps (Some _) m link lives unit t e h = h
+
 pub tick_steps : (m : Manager) (link : Link) (lives : ℕ) (unit : Option Onu) (t : Told)
     → Steady link lives unit m t → m.reports ≡ [] → StepsTo (after_tick m) link lives unit t
 unfolding after_tick
 tick_steps m link lives unit t h quiet =
     let a : Outcome = tick_lane High m in
-    steps_quiet (and_then a (tick_lane Low)) link lives unit t t
-    (ap (λ (l : List Priority). tell_all
-    (map ReplyTaken (l ++ (tick_lane Low a.manager).taken) ++ map NoticeTaken
-    (a.noticed ++ (tick_lane Low a.manager).noticed)) t) (lane_taken High m)
-    ∙ ap (λ (l : List Priority). tell_all
-    (map ReplyTaken l ++ map NoticeTaken (a.noticed ++ (tick_lane Low a.manager).noticed)) t)
-    (lane_taken Low a.manager)
-    ∙ ap (λ (l : List Alarm). tell_all (map NoticeTaken (l ++ (tick_lane Low a.manager).noticed)) t)
-    (lane_noticed High m)
-    ∙ ap (λ (l : List Alarm). tell_all (map NoticeTaken l) t) (lane_noticed Low a.manager))
-    (lane_quiet Low a.manager (lane_quiet High m (subst NoneSynced (sym quiet) tt)))
+    let b : Outcome = and_then a (tick_lane Low) in
+    let q = resume_silent b.manager.job b.manager in
+    let r : Outcome = job_resumes b.manager in
+    steps_quiet (and_then b job_resumes) link lives unit t t
+    (ap (λ (l : List Priority). tell_all (map ReplyTaken ((l ++ (tick_lane Low a.manager).taken) ++ r.taken) ++ map NoticeTaken (b.noticed ++ r.noticed)) t) (lane_taken High m)
+    ∙ ap (λ (l : List Priority). tell_all (map ReplyTaken (l ++ r.taken) ++ map NoticeTaken (b.noticed ++ r.noticed)) t) (lane_taken Low a.manager)
+    ∙ ap (λ (l : List Priority). tell_all (map ReplyTaken l ++ map NoticeTaken (b.noticed ++ r.noticed)) t) q.taken
+    ∙ ap (λ (l : List Alarm). tell_all (map NoticeTaken ((l ++ (tick_lane Low a.manager).noticed) ++ r.noticed)) t) (lane_noticed High m)
+    ∙ ap (λ (l : List Alarm). tell_all (map NoticeTaken (l ++ r.noticed)) t) (lane_noticed Low a.manager)
+    ∙ ap (λ (l : List Alarm). tell_all (map NoticeTaken l) t) q.noticed)
+    (subst NoneSynced (sym q.reports)
+    (lane_quiet Low a.manager (lane_quiet High m (subst NoneSynced (sym quiet) tt))))
+    (sends_both b job_resumes link lives unit t
     (sends_both a (tick_lane Low) link lives unit t (lane_ticks m link lives unit t h High)
     (λ l u g. lane_ticks a.manager l lives unit u g Low))
+    (λ l u g. resume_steps b.manager.job b.manager l lives unit u refl g))

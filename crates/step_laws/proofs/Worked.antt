@@ -30,6 +30,7 @@ use Rattle.manager_spec.specs.Resync.{gather_on}
 use Rattle.manager_spec.specs.Jobs.{job_goes_on}
 use Rattle.manager_spec.specs.Submitting.{after_probe, after_submit, after_check, after_resync}
 use Rattle.manager_spec.specs.Steps.{response_of, after_packet, after_tick}
+use Rattle.slot_spec.specs.Layout.{version}
 use Rattle.link_spec.specs.Link.{allowed, ways_past, fresh}
 use Rattle.world_spec.specs.Ends.{arrives, noise, second}
 use Rattle.world_spec.specs.Nodes.{delivery, flow, acted, step, nodes_after}
@@ -50,7 +51,7 @@ pub record Ends : Type 0 where
   pub again_apart : (command : ℕ) → EndsInStep started_again command → ⊥
 
 pub ends : Ends
-unfolding resynchronised created_alone started_again nodes_after crc dividend divide without_first
+unfolding version resynchronised created_alone started_again nodes_after crc dividend divide without_first
     generator add_to_front inverted inverted_bit bits_of number_of message_bits checked_bytes
     spelling number_at frame_of trailer_at given_check computed_check fault_of frame_unless packet_frame
     padding put plain message_of type_numbered kind_of class_table class_row known_mask

@@ -15,7 +15,7 @@ use Rattle.manager_spec.specs.Steps.{response_of, checked_by}
 use Rattle.unit_spec.specs.Onu.{Onu}
 use Rattle.script_spec.specs.Script.{Header, Action}
 use Rattle.history_spec.specs.History.{Entry, CarriedOut, TookReply, Remarked, TookSnapshot, Synced}
-use Rattle.history_spec.specs.History.{TookAlarms, Audited}
+use Rattle.history_spec.specs.History.{TookAlarms, Audited, Stored, Downloaded}
 use Rattle.world_spec.specs.Nodes.{Nodes, first_nodes, nodes_after}
 use Rattle.world_spec.specs.History.{Told, first_told, told_after, drawn_in}
 use Rattle.resync_laws.specs.Agreeing.{Agrees}
@@ -31,6 +31,8 @@ LastSynced command (Remarked (TookSnapshot life c database) ∷ older) = LastSyn
 LastSynced command (Remarked (Synced c copy) ∷ older) = c ≡ command
 LastSynced command (Remarked (TookAlarms life c alarms) ∷ older) = LastSynced command older
 LastSynced command (Remarked (Audited c table notices) ∷ older) = LastSynced command older
+LastSynced command (Remarked (Stored entry) ∷ older) = LastSynced command older
+LastSynced command (Remarked (Downloaded slot image) ∷ older) = LastSynced command older
 
 -- it was that life of the unit in which the upload command put a database by the last time
 abbrev pub LastSnapshotIn : (life command : ℕ) → List Entry → Type 0
@@ -44,6 +46,9 @@ LastSnapshotIn life command (Remarked (Synced c copy) ∷ older) = LastSnapshotI
 LastSnapshotIn life command (Remarked (TookAlarms l c alarms) ∷ older) =
     LastSnapshotIn life command older
 LastSnapshotIn life command (Remarked (Audited c table notices) ∷ older) =
+    LastSnapshotIn life command older
+LastSnapshotIn life command (Remarked (Stored entry) ∷ older) = LastSnapshotIn life command older
+LastSnapshotIn life command (Remarked (Downloaded slot image) ∷ older) =
     LastSnapshotIn life command older
 
 -- in that life the command was carried out, and this was the database before it
@@ -74,7 +79,7 @@ pub record AreInStep (n : Nodes) (t : Told) (m : Manager) (u : Onu) (command : �
   pub synced : LastSynced command t.history
   pub life : LastSnapshotIn n.ends.lives command t.history
 
--- the manager waits in that lane for the reply to a change
+-- the manager waits in that lane for the reply to a change, or to the start or the end of a download
 pub record IsOutstandingChange (lane : Priority) (m : Manager) (w : Waiting) : Type 0 where
   pub waits : (lane_in lane m).outstanding ≡ Some w
   pub changing : is_changing w.command.request ≡ true

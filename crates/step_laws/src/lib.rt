@@ -2,7 +2,7 @@
 //! Each function does nothing: what it ensures is the law, and a caller's proof may cite it.
 #![tactic(auto)]
 
-ghost use Rattle.std.specs.Prelude.{◌≡◌, ℕ, List, Some};
+ghost use Rattle.std.specs.Prelude.{false, ◌≡◌, ℕ, List, Some};
 ghost use Rattle.std.specs.List.{All};
 ghost use Rattle.omci_types.specs.declared.Frame.{Frame};
 ghost use Rattle.tci_spec.specs.Tci.{IsNumber};
@@ -46,7 +46,7 @@ pub fn copies_are_read()
     ensures checked { (n : Nodes) (t : Told) (m : Manager) (u : Onu) (command : ℕ)
         → AreReached n t → AreInStep n t m u command → IsAtRest m
         → (asked reply : Frame) → asked.entity ≡ sync_entity
-        → packet_frame (spelling (answer asked sync_request u).reply) ≡ Some reply
+        → packet_frame (spelling (answer false asked sync_request u).reply) ≡ Some reply
         → ChecksEqual m u reply }
 {
     requests_are_awaited();

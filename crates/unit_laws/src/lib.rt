@@ -2,9 +2,10 @@
 //! the law, and a caller's proof may cite it.
 #![tactic(auto)]
 
-ghost use Rattle.std.specs.Prelude.{◌≡◌, ◌≤◌, ℕ, true, List, length};
+ghost use Rattle.std.specs.Prelude.{◌≡◌, ◌≤◌, ℕ, Bool, true, List, length};
 ghost use Rattle.omci_types.specs.declared.EntityId.{EntityId};
-ghost use Rattle.omci_types.specs.declared.Software.{Software};
+ghost use Rattle.omci_types.specs.declared.Boot.{Boot};
+ghost use Rattle.slot_spec.specs.Slots.{SlotPair};
 ghost use Rattle.mib_spec.specs.Database.{Database};
 ghost use Rattle.mib_laws.specs.Made.{HoldsOnlyMade};
 ghost use Rattle.alarm_spec.specs.Log.{Log, new_log, change};
@@ -26,9 +27,10 @@ pub fn alarms_are_of_seven()
 /// A unit that starts is sound, and stays so whatever comes to it; so no more than seven of its
 /// entities have an alarm.
 pub fn unit_stays_sound()
-    ensures started { (software : Software) → IsSound (onu_started software) }
-    ensures received { (bytes : List ℕ) (u : Onu)
-        → IsSound u → IsSound (onu_received bytes u).unit }
+    ensures started { (boot : Boot) (room : ℕ) (slots : SlotPair)
+        → IsSound (onu_started boot room slots) }
+    ensures received { (fails : Bool) (bytes : List ℕ) (u : Onu)
+        → IsSound u → IsSound (onu_received fails bytes u).unit }
     ensures ticked { (u : Onu) → IsSound u → IsSound (onu_ticked u) }
     ensures sensed { (one : EntityId) (number : ℕ) (value : List ℕ) (u : Onu)
         → IsSound u → IsSound (onu_sensed one number value u).unit }

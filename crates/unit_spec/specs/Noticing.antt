@@ -1,6 +1,7 @@
 -- What the unit notices by itself: a value that it measured, or the alarms of an entity. It tells the
 -- manager of a change by a notice.
-use Rattle.std.specs.Prelude.{ℕ, ◌==◌, ◌&&◌, ◌||◌, not, Bool, true, false, List, [], Option, Some, None}
+use Rattle.std.specs.Prelude.{ℕ, ◌==◌, ◌&&◌, ◌||◌, not, is_none, Bool, true, false, List, [], Option, Some, None}
+use Rattle.omci_types.specs.declared.Boot.{Boot}
 use Rattle.omci_types.specs.declared.EntityId.{EntityId}
 use Rattle.message_spec.specs.declared.Message.TheVariants.{Told}
 use Rattle.message_spec.specs.declared.Notice.{Notice}
@@ -48,10 +49,18 @@ sensed_as sensed.Changed one number value db u =
       packet = notice_packet one (value_notice number value);
     }
 
+-- a unit that leaves notices nothing more
+abbrev pub notice_unless_leaving : Option Boot → Noticing → Onu → Noticing
+notice_unless_leaving None n u = n
+notice_unless_leaving (Some boot) n u = notices_nothing noticed.NotAllowed u
+
+abbrev pub measured : EntityId → ℕ → List ℕ → Onu → Noticing
+measured one number value u =
+    let o = sense_outcome one number value u.database in sensed_as o.0 one number value o.1 u
+
 -- the entity's attribute was measured
 unfoldable pub onu_sensed : EntityId → ℕ → List ℕ → Onu → Noticing
-onu_sensed one number value u =
-    let o = sense_outcome one number value u.database in sensed_as o.0 one number value o.1 u
+onu_sensed one number value u = notice_unless_leaving u.leaving (measured one number value u) u
 
 -- ---- alarms
 
@@ -75,9 +84,10 @@ alarm_if true one bitmap u =
 
 -- the entity's alarms are these from now on
 unfoldable pub onu_alarmed : EntityId → List ℕ → Onu → Noticing
-onu_alarmed one bitmap u = alarm_if (may_alarm one u.database) one bitmap u
+onu_alarmed one bitmap u =
+    notice_unless_leaving u.leaving (alarm_if (may_alarm one u.database) one bitmap u) u
 
 -- whether that takes memory: an entity has its first alarm
 abbrev pub alarm_takes : EntityId → List ℕ → Onu → Bool
 alarm_takes one bitmap u =
-    may_alarm one u.database && not (is_raised one u.log.alarms) && not (is_clear bitmap)
+    is_none u.leaving && (may_alarm one u.database && not (is_raised one u.log.alarms) && not (is_clear bitmap))

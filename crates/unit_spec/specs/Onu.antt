@@ -1,9 +1,10 @@
--- The unit: its database, for each priority the reply that it gave last, its alarms, and what it put
--- by: the database for an upload, the alarms for an audit.
+-- The unit: its database, for each priority the reply that it gave last, its alarms, what it put
+-- by (the database for an upload, the alarms for an audit), its store of software images, and whether
+-- it leaves.
 use Rattle.std.specs.Prelude.{ℕ, ◌+◌, ◌-◌, ◌/◌, ◌==◌, ◌&&◌, is_none, nat_le, Bool, true, false, List, [], ◌∷◌, length, replicate, Option, Some, None, Result, Ok, Err}
 use Rattle.omci_types.specs.declared.Code.{Code}
 use Rattle.omci_types.specs.declared.Frame.{Frame}
-use Rattle.omci_types.specs.declared.Software.{Software}
+use Rattle.omci_types.specs.declared.Boot.{Boot}
 use Rattle.message_spec.specs.declared.Message.{Message}
 use Rattle.message_spec.specs.declared.Message.TheVariants.{Asked, Answered, Told}
 use Rattle.message_spec.specs.declared.Request.{Request}
@@ -20,6 +21,12 @@ use Rattle.retry_spec.specs.Kept.{Kept, nothing_kept, kept_for, kept_with}
 use Rattle.upload_spec.specs.Pieces.{without_makers, pieces, piece_at}
 use Rattle.alarm_spec.specs.Alarms.{Alarms, row_at}
 use Rattle.alarm_spec.specs.Log.{Log, new_log, after_snapshot}
+use Rattle.slot_spec.specs.Slots.{SlotPair}
+use Rattle.store_spec.specs.History.{StoreEntry}
+use Rattle.store_spec.specs.State.{StoreState, store_started, software_of}
+use Rattle.store_spec.specs.Deeds.{Deed, Ignore, deed}
+use Rattle.store_spec.specs.Effects.{store_after, handled_by, entries_by}
+use Rattle.unit_spec.specs.Images.{code_handled, granted_by, quiet_did, database_handled, leaving_handled, note_handled, reboot_code, leaving_reboot, reboot_note}
 use Rattle.unit_spec.specs.declared.TheConstants.{SNAPSHOT_SECONDS}
 use Rattle.unit_spec.specs.declared.Note.{Note}
 use Rattle.unit_spec.specs.declared.Note.TheVariants as note
@@ -42,41 +49,54 @@ pub record Onu : Type 0 where
   pub snapshot : Option Snapshot
   pub log : Log
   pub alarm_snapshot : Option AlarmSnapshot
+  -- so much room in each image slot
+  pub room : ℕ
+  pub store : StoreState
+  -- how it starts again with the next second, where it leaves
+  pub leaving : Option Boot
 
--- a unit that starts: the first database, nothing kept, no alarms, and nothing put by
-unfoldable pub onu_started : Software → Onu
-onu_started software =
+-- a unit that starts so with the slots of its disk, with so much room in each: the first database,
+-- nothing kept, no alarms, nothing put by, and no download
+unfoldable pub onu_started : Boot → (room : ℕ) → SlotPair → Onu
+onu_started boot room slots =
     record {
-      database = first software;
+      database = first (software_of (store_started boot slots));
       kept = nothing_kept;
       snapshot = None;
       log = new_log;
       alarm_snapshot = None;
+      room = room;
+      store = store_started boot slots;
+      leaving = None;
     }
 
--- what a packet comes to: the unit after it, what it did, and its reply, which is empty where it gave none
+-- what a packet comes to: the unit after it, what it did, its reply, which is empty where it gave none, and what its store has for
+-- the history, newest first
 pub record Reception : Type 0 where
   pub unit : Onu
   pub did : Did
   pub reply : List ℕ
+  pub stored : List StoreEntry
 
 abbrev pub drop_packet : Onu → Reception
-drop_packet u = record { unit = u; did = did.Dropped; reply = [] }
+drop_packet u = record { unit = u; did = did.Dropped; reply = []; stored = [] }
 
 -- ---- a request is carried out
 
--- what carrying a request out comes to: the response's frame, the unit after it, and what else is told of it
+-- what carrying a request out comes to: the response's frame, the unit after it, what else is told of it, and what its store has
+-- for the history, newest first
 pub record Answer : Type 0 where
   pub reply : Frame
   pub unit : Onu
   pub note : Option Note
+  pub stored : List StoreEntry
 
 -- the response to a request, under its TCI and for its entity
 abbrev pub response_frame : Frame → Response → Frame
 response_frame f response = plain (Answered f.tci f.entity response)
 
 abbrev pub respond : Frame → Response → Onu → Answer
-respond f response u = record { reply = response_frame f response; unit = u; note = None }
+respond f response u = record { reply = response_frame f response; unit = u; note = None; stored = [] }
 
 abbrev pub with_database : Database → Onu → Onu
 with_database db u = record u { database = db }
@@ -87,7 +107,7 @@ abbrev pub refusal_frame : Frame → Frame
 refusal_frame f = record { tci = f.tci; kind = f.kind - 32; entity = f.entity; contents = 2 ∷ replicate 31 0 }
 
 abbrev pub not_supported : Frame → Onu → Answer
-not_supported f u = record { reply = refusal_frame f; unit = u; note = None }
+not_supported f u = record { reply = refusal_frame f; unit = u; note = None; stored = [] }
 
 abbrev pub code : ℕ → Code
 code number = record { 0 = number }
@@ -99,6 +119,7 @@ upload f u =
       reply = response_frame f (response.Upload (length (pieces (without_makers u.database))));
       unit = record u { snapshot = Some (record { database = u.database; age = 0 }) };
       note = Some (note.Snapshot (length u.database) (counter u.database));
+      stored = [];
     }
 
 -- a piece that isn't there is all zeros
@@ -129,6 +150,7 @@ get_alarms f u =
         alarm_snapshot = Some (record { alarms = u.log.alarms; age = 0 });
       };
       note = Some (note.Alarms (length u.log.alarms));
+      stored = [];
     }
 
 -- the next of them: the row of that number of what was put by, whose age begins anew
@@ -145,30 +167,75 @@ alarms_next f number u =
     respond f (response.AlarmsNext (next_row number u.alarm_snapshot))
     (record u { alarm_snapshot = alarms_fresh_again u.alarm_snapshot })
 
--- the requests that the unit carries out
-unfoldable pub answer : Frame → Request → Onu → Answer
-answer f (request.Create values) u =
+-- ---- software images, and a restart
+
+-- what a request for a software image asks of the store
+abbrev pub image_deed : Frame → Request → Onu → Deed
+image_deed f r u = deed u.room f.tci f.entity r u.store
+
+-- the unit after a deed of its store for a slot
+abbrev pub image_handled : (fails : Bool) → Deed → (slot : ℕ) → Onu → Onu
+image_handled fails d slot u =
+    record u {
+      database = database_handled (handled_by fails d) (software_of (store_after fails d u.store)) u.database;
+      store = store_after fails d u.store;
+      leaving = leaving_handled (handled_by fails d) slot u.leaving;
+    }
+
+-- such a request is carried out, by its deed, and answered by the deed's code
+abbrev pub image_answer : (fails : Bool) → Deed → Frame → (ℕ → Response) → Onu → Answer
+image_answer fails d f response u =
+    record {
+      reply = response_frame f (response (code_handled (handled_by fails d)));
+      unit = image_handled fails d f.entity.instance u;
+      note = note_handled fails d f.entity.instance;
+      stored = entries_by fails d;
+    }
+
+-- the unit restarts after its reply
+abbrev pub reboot : Frame → Onu → Answer
+reboot f u =
+    record {
+      reply = response_frame f (response.Reboot (code (reboot_code f.entity)));
+      unit = record u { leaving = leaving_reboot (reboot_code f.entity) u.leaving };
+      note = reboot_note (reboot_code f.entity);
+      stored = [];
+    }
+
+-- A request is carried out; it matters to those for a software image alone whether a device call
+-- fails in it.
+unfoldable pub answer : (fails : Bool) → Frame → Request → Onu → Answer
+answer fails f (request.Create values) u =
     let o = create_outcome f.entity values u.database in respond f (response.Create (code o.0) 0) (with_database o.1 u)
-answer f request.Delete u =
+answer fails f request.Delete u =
     let o = delete_outcome f.entity u.database in respond f (response.Delete (code o.0)) (with_database o.1 u)
-answer f (request.Set mask values) u =
+answer fails f (request.Set mask values) u =
     let o = set_outcome f.entity mask values u.database in
     respond f (response.Set (code o.code) o.unsupported o.failed) (with_database o.database u)
-answer f (request.Get mask) u =
+answer fails f (request.Get mask) u =
     let o = get_outcome f.entity mask u.database in
     respond f (response.Get (code o.code) o.mask o.values o.unsupported 0) u
-answer f request.Reset u =
+answer fails f request.Reset u =
     respond f (response.Reset (code (reset_code f.entity))) (with_database (unless_refused (reset_code f.entity) (reset u.database) u.database) u)
-answer f (request.Alarms mode) u = get_alarms f u
-answer f (request.AlarmsNext number) u = alarms_next f number u
-answer f request.Upload u = upload f u
-answer f (request.UploadNext number) u = upload_next f number u
-answer f (request.Start window size targets target) u = not_supported f u
-answer f (request.Section number bytes last) u = not_supported f u
-answer f (request.End crc size targets target) u = not_supported f u
-answer f (request.Activate flags) u = not_supported f u
-answer f request.Commit u = not_supported f u
-answer f (request.Reboot flags) u = not_supported f u
+answer fails f (request.Alarms mode) u = get_alarms f u
+answer fails f (request.AlarmsNext number) u = alarms_next f number u
+answer fails f request.Upload u = upload f u
+answer fails f (request.UploadNext number) u = upload_next f number u
+answer fails f (request.Start window size targets target) u =
+    image_answer fails (image_deed f (request.Start window size targets target) u) f
+    (λ number. response.Start (code number) (granted_by number window)) u
+answer fails f (request.Section number bytes last) u =
+    image_answer fails (image_deed f (request.Section number bytes last) u) f
+    (λ given. response.Section (code given) number) u
+answer fails f (request.End crc size targets target) u =
+    image_answer fails (image_deed f (request.End crc size targets target) u) f
+    (λ number. response.End (code number)) u
+answer fails f (request.Activate flags) u =
+    image_answer fails (image_deed f (request.Activate flags) u) f
+    (λ number. response.Activate (code number)) u
+answer fails f request.Commit u =
+    image_answer fails (image_deed f request.Commit u) f (λ number. response.Commit (code number)) u
+answer fails f (request.Reboot flags) u = reboot f u
 
 -- ---- a request comes
 
@@ -179,12 +246,18 @@ keep_reply tci a =
       unit = record a.unit { kept = kept_with tci (spelling a.reply) a.unit.kept };
       did = did.Carried a.note;
       reply = spelling a.reply;
+      stored = a.stored;
     }
+
+-- a unit that leaves drops what no kept reply answers
+abbrev pub unless_leaving : Option Boot → Reception → Onu → Reception
+unless_leaving None r u = r
+unless_leaving (Some boot) r u = drop_packet u
 
 -- a request that comes again under the kept TCI of its priority is answered by the kept reply, and not carried out
 abbrev pub unless_kept : Option (List ℕ) → ℕ → Answer → Onu → Reception
-unless_kept (Some reply) tci a u = record { unit = u; did = did.Kept; reply = reply }
-unless_kept None tci a u = keep_reply tci a
+unless_kept (Some reply) tci a u = record { unit = u; did = did.Kept; reply = reply; stored = [] }
+unless_kept None tci a u = unless_leaving u.leaving (keep_reply tci a) u
 
 unfoldable pub take_request : Frame → Answer → Onu → Reception
 take_request f a u = unless_kept (kept_for f.tci u.kept) f.tci a u
@@ -194,9 +267,28 @@ abbrev pub asks_nothing : Request → Bool
 asks_nothing (request.Section number bytes false) = true
 asks_nothing _ = false
 
-abbrev pub unless_quiet : Bool → Frame → Request → Onu → Reception
-unless_quiet true f r u = drop_packet u
-unless_quiet false f r u = take_request f (answer f r u) u
+-- it is held, or dropped, and no reply is kept
+abbrev pub hold_section : (fails : Bool) → Deed → (slot : ℕ) → Onu → Reception
+hold_section fails d slot u =
+    record {
+      unit = image_handled fails d slot u;
+      did = quiet_did (handled_by fails d);
+      reply = [];
+      stored = entries_by fails d;
+    }
+
+-- under the kept TCI of its priority it is dropped
+abbrev pub hold_unless_kept : Option (List ℕ) → (fails : Bool) → Deed → (slot : ℕ) → Onu → Reception
+hold_unless_kept (Some reply) fails d slot u = drop_packet u
+hold_unless_kept None fails d slot u = unless_leaving u.leaving (hold_section fails d slot u) u
+
+unfoldable pub take_section : (fails : Bool) → Frame → Request → Onu → Reception
+take_section fails f r u =
+    hold_unless_kept (kept_for f.tci u.kept) fails (image_deed f r u) f.entity.instance u
+
+abbrev pub unless_quiet : Bool → (fails : Bool) → Frame → Request → Onu → Reception
+unless_quiet true fails f r u = take_section fails f r u
+unless_quiet false fails f r u = take_request f (answer fails f r u) u
 
 -- whether a type byte is that of a request: AR alone
 abbrev pub has_request_bits : ℕ → Bool
@@ -207,20 +299,45 @@ if_request true f u = take_request f (not_supported f u) u
 if_request false f u = drop_packet u
 
 -- a request is answered; an unknown type counts as one where its bits are those of a request; nothing else is for the unit
-abbrev pub for_message : Result Message ContentsFault → Frame → Onu → Reception
-for_message (Ok (Asked tci entity r)) f u = unless_quiet (asks_nothing r) f r u
-for_message (Ok (Answered tci entity r)) f u = drop_packet u
-for_message (Ok (Told tci entity notice)) f u = drop_packet u
-for_message (Err (UnknownType number)) f u = if_request (has_request_bits f.kind) f u
-for_message (Err (Bits kind)) f u = drop_packet u
+abbrev pub for_message : (fails : Bool) → Result Message ContentsFault → Frame → Onu → Reception
+for_message fails (Ok (Asked tci entity r)) f u = unless_quiet (asks_nothing r) fails f r u
+for_message fails (Ok (Answered tci entity r)) f u = drop_packet u
+for_message fails (Ok (Told tci entity notice)) f u = drop_packet u
+for_message fails (Err (UnknownType number)) f u = if_request (has_request_bits f.kind) f u
+for_message fails (Err (Bits kind)) f u = drop_packet u
 
-abbrev pub for_frame : Option Frame → Onu → Reception
-for_frame None u = drop_packet u
-for_frame (Some f) u = for_message (message_of f) f u
+abbrev pub for_frame : (fails : Bool) → Option Frame → Onu → Reception
+for_frame fails None u = drop_packet u
+for_frame fails (Some f) u = for_message fails (message_of f) f u
 
--- a packet that comes: one that isn't exactly one frame is nothing
-unfoldable pub onu_received : List ℕ → Onu → Reception
-onu_received bytes u = for_frame (packet_frame bytes) u
+-- A packet that comes, and whether a device call fails in it: one that isn't exactly one frame is nothing.
+unfoldable pub onu_received : (fails : Bool) → List ℕ → Onu → Reception
+onu_received fails bytes u = for_frame fails (packet_frame bytes) u
+
+-- ---- what a packet asks of the store
+
+abbrev pub deed_unless_leaving : Option Boot → Deed → Deed
+deed_unless_leaving None d = d
+deed_unless_leaving (Some boot) d = Ignore
+
+abbrev pub deed_unless_kept : Option (List ℕ) → Option Boot → Deed → Deed
+deed_unless_kept None leaving d = deed_unless_leaving leaving d
+deed_unless_kept (Some reply) leaving d = Ignore
+
+abbrev pub message_deed : Result Message ContentsFault → Frame → Onu → Deed
+message_deed (Ok (Asked tci entity r)) f u =
+    deed_unless_kept (kept_for f.tci u.kept) u.leaving (image_deed f r u)
+message_deed (Ok (Answered tci entity r)) f u = Ignore
+message_deed (Ok (Told tci entity notice)) f u = Ignore
+message_deed (Err fault) f u = Ignore
+
+abbrev pub frame_deed : Option Frame → Onu → Deed
+frame_deed None u = Ignore
+frame_deed (Some f) u = message_deed (message_of f) f u
+
+-- the deed of the store in a packet that comes: none where it is dropped or answered by a kept reply
+unfoldable pub packet_deed : List ℕ → Onu → Deed
+packet_deed bytes u = frame_deed (packet_frame bytes) u
 
 -- ---- a second passes
 
@@ -259,7 +376,8 @@ takes_room f (request.Alarms mode) db = true
 takes_room f _ db = false
 
 abbrev pub message_takes : Result Message ContentsFault → Frame → Onu → Bool
-message_takes (Ok (Asked tci entity r)) f u = is_none (kept_for f.tci u.kept) && takes_room f r u.database
+message_takes (Ok (Asked tci entity r)) f u =
+    is_none (kept_for f.tci u.kept) && (is_none u.leaving && takes_room f r u.database)
 message_takes (Ok (Answered tci entity r)) f u = false
 message_takes (Ok (Told tci entity notice)) f u = false
 message_takes (Err fault) f u = false
@@ -268,6 +386,7 @@ abbrev pub frame_takes : Option Frame → Onu → Bool
 frame_takes None u = false
 frame_takes (Some f) u = message_takes (message_of f) f u
 
--- whether a packet takes memory: it asks for an entity that will be made, an upload or the alarms, and no kept reply answers it
+-- whether a packet takes memory: it asks for an entity that will be made, an upload or the alarms, no kept reply answers it, and the
+-- unit doesn't leave
 unfoldable pub takes_memory : List ℕ → Onu → Bool
 takes_memory bytes u = frame_takes (packet_frame bytes) u

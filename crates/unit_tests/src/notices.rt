@@ -1,9 +1,10 @@
 //! What the unit tells of what it notices by itself, and what an audit reads of its alarms.
 
-use crate::played::{ONU_DATA, SOFTWARE, ask, contents, wait};
+use crate::played::{ONU_DATA, carries, contents, gives, started, wait};
 use omci_contents::Request;
 use omci_core::{EntityId, Packet};
-use onu_agent::{Agent, BITMAP_BYTES, Did, Note, Noticed};
+use onu_agent::{Agent, BITMAP_BYTES, Note, Noticed};
+use slot_disk::MemDisk;
 use std::test::Fail;
 
 const PORT: EntityId = EntityId {
@@ -22,75 +23,90 @@ const PORT_ROW: [u8; 32] = [
     0, 0,
 ];
 
+/// The notice that the port's attribute 2 is 2f.
+const VALUE_NOTICE: [u8; 48] = [
+    0x00, 0x00, 0x11, 0x0a, 0x00, 0x0b, 0x01, 0x01, 0x40, 0x00, 0x2f, 0x00, 0x00, 0x00, 0x00, 0x00,
+    0x00, 0x00, 0x00, 0x00, 0x00, 0x00, 0x00, 0x00, 0x00, 0x00, 0x00, 0x00, 0x00, 0x00, 0x00, 0x00,
+    0x00, 0x00, 0x00, 0x00, 0x00, 0x00, 0x00, 0x00, 0x00, 0x00, 0x00, 0x28, 0x66, 0xce, 0x05, 0xfc,
+];
+
+/// The notice that the port has alarm 0 alone, under number 1.
+const ALARM_NOTICE: [u8; 48] = [
+    0x00, 0x00, 0x10, 0x0a, 0x00, 0x0b, 0x01, 0x01, 0x80, 0x00, 0x00, 0x00, 0x00, 0x00, 0x00, 0x00,
+    0x00, 0x00, 0x00, 0x00, 0x00, 0x00, 0x00, 0x00, 0x00, 0x00, 0x00, 0x00, 0x00, 0x00, 0x00, 0x00,
+    0x00, 0x00, 0x00, 0x00, 0x00, 0x00, 0x00, 0x01, 0x00, 0x00, 0x00, 0x28, 0x49, 0x0c, 0xfb, 0xf7,
+];
+
+/// The unit measures this value of the port's attribute. Whether it comes to this, and exactly
+/// these bytes are sent.
+fn senses(
+    agent: &mut Agent<MemDisk>,
+    number: u8,
+    value: &[u8],
+    noticed: Noticed,
+    sent: &[u8],
+) -> bool {
+    let mut out = Packet::new();
+    agent.sense(PORT, number, value, &mut out) == Ok(noticed) && out.bytes() == sent
+}
+
 #[test]
 fn a_measured_value_is_told(rt: HostRuntime) -> Result<(), Fail> {
-    let mut agent = Agent::start(rt.alloc(), SOFTWARE)?;
-    let mut out = Packet::new();
-    let noticed = agent.sense(PORT, 2, &[0x2f], &mut out)?;
-    assert_eq!(rt; noticed, Noticed::Sent);
-    assert_eq!(rt;
-        out.bytes(),
-        [
-            0x00, 0x00, 0x11, 0x0a, 0x00, 0x0b, 0x01, 0x01, 0x40, 0x00, 0x2f, 0x00, 0x00, 0x00,
-            0x00, 0x00, 0x00, 0x00, 0x00, 0x00, 0x00, 0x00, 0x00, 0x00, 0x00, 0x00, 0x00, 0x00,
-            0x00, 0x00, 0x00, 0x00, 0x00, 0x00, 0x00, 0x00, 0x00, 0x00, 0x00, 0x00, 0x00, 0x00,
-            0x00, 0x28, 0x66, 0xce, 0x05, 0xfc,
-        ]
-        .as_slice()
-    );
-    let noticed = agent.sense(PORT, 2, &[0x2f], &mut out)?;
-    assert_eq!(rt; noticed, Noticed::Same);
-    assert_eq!(rt; out.len(), 0);
-    let noticed = agent.sense(PORT, 8, &[5, 238], &mut out)?;
-    assert_eq!(rt; noticed, Noticed::NotAllowed);
+    let mut agent = started(rt.alloc())?;
+    assert!(rt; senses(&mut agent, 2, &[0x2f], Noticed::Sent, &VALUE_NOTICE));
+    assert!(rt; senses(&mut agent, 2, &[0x2f], Noticed::Same, &[]));
+    assert!(rt; senses(&mut agent, 8, &[5, 238], Noticed::NotAllowed, &[]));
     Ok(())
+}
+
+/// The entity has alarm 0 alone. Whether it comes to this, and exactly these bytes are sent.
+fn has_first_alarm(
+    agent: &mut Agent<MemDisk>,
+    entity: EntityId,
+    noticed: Noticed,
+    sent: &[u8],
+) -> bool {
+    let mut out = Packet::new();
+    agent.alarm(entity, FIRST_ALARM, &mut out) == Ok(noticed) && out.bytes() == sent
 }
 
 #[test]
 fn an_alarm_is_told_under_the_next_number(rt: HostRuntime) -> Result<(), Fail> {
-    let mut agent = Agent::start(rt.alloc(), SOFTWARE)?;
-    let mut out = Packet::new();
-    let noticed = agent.alarm(PORT, FIRST_ALARM, &mut out)?;
-    assert_eq!(rt; noticed, Noticed::Sent);
-    assert_eq!(rt;
-        out.bytes(),
-        [
-            0x00, 0x00, 0x10, 0x0a, 0x00, 0x0b, 0x01, 0x01, 0x80, 0x00, 0x00, 0x00, 0x00, 0x00,
-            0x00, 0x00, 0x00, 0x00, 0x00, 0x00, 0x00, 0x00, 0x00, 0x00, 0x00, 0x00, 0x00, 0x00,
-            0x00, 0x00, 0x00, 0x00, 0x00, 0x00, 0x00, 0x00, 0x00, 0x00, 0x00, 0x01, 0x00, 0x00,
-            0x00, 0x28, 0x49, 0x0c, 0xfb, 0xf7,
-        ]
-        .as_slice()
-    );
-    let noticed = agent.alarm(PORT, FIRST_ALARM, &mut out)?;
-    assert_eq!(rt; noticed, Noticed::Same);
-    let noticed = agent.alarm(ONU_DATA, FIRST_ALARM, &mut out)?;
-    assert_eq!(rt; noticed, Noticed::NotAllowed);
+    let mut agent = started(rt.alloc())?;
+    assert!(rt; has_first_alarm(&mut agent, PORT, Noticed::Sent, &ALARM_NOTICE));
+    assert!(rt; has_first_alarm(&mut agent, PORT, Noticed::Same, &[]));
+    assert!(rt; has_first_alarm(&mut agent, ONU_DATA, Noticed::NotAllowed, &[]));
     assert_eq!(rt; agent.alarms(), 1);
     Ok(())
 }
 
+/// The number of the notice that the port has these alarms. `None` where none is sent.
+fn notice_number(agent: &mut Agent<MemDisk>, bitmap: [u8; BITMAP_BYTES]) -> Option<u8> {
+    let mut out = Packet::new();
+    match agent.alarm(PORT, bitmap, &mut out) {
+        Ok(Noticed::Sent) => Some(contents(&out)[31]),
+        _ => None,
+    }
+}
+
 #[test]
 fn alarms_are_read_row_by_row_for_a_minute(rt: HostRuntime) -> Result<(), Fail> {
-    let mut agent = Agent::start(rt.alloc(), SOFTWARE)?;
-    let mut out = Packet::new();
-    let _sent = agent.alarm(PORT, FIRST_ALARM, &mut out)?;
-    let did = ask(&mut agent, 1, Request::Alarms { mode: 0 }, &mut out)?;
-    assert_eq!(rt;
-        did,
-        Did::Carried {
-            note: Some(Note::Alarms { rows: 1 })
-        }
+    let mut agent = started(rt.alloc())?;
+    let first_row = Request::AlarmsNext { number: 0 };
+    assert_eq!(rt; notice_number(&mut agent, FIRST_ALARM), Some(1));
+    assert!(rt;
+        carries(
+            &mut agent,
+            1,
+            Request::Alarms { mode: 0 },
+            Note::Alarms { rows: 1 }
+        )
     );
     wait(&mut agent, 59);
-    let _carried = ask(&mut agent, 2, Request::AlarmsNext { number: 0 }, &mut out)?;
-    assert_eq!(rt; contents(&out), PORT_ROW);
-    let _sent = agent.alarm(PORT, [0; BITMAP_BYTES], &mut out)?;
-    assert_eq!(rt; contents(&out)[31], 1);
-    let _carried = ask(&mut agent, 3, Request::AlarmsNext { number: 0 }, &mut out)?;
-    assert_eq!(rt; contents(&out), PORT_ROW);
+    assert!(rt; gives(&mut agent, 2, first_row, &PORT_ROW));
+    assert_eq!(rt; notice_number(&mut agent, [0; BITMAP_BYTES]), Some(1));
+    assert!(rt; gives(&mut agent, 3, first_row, &PORT_ROW));
     wait(&mut agent, 60);
-    let _carried = ask(&mut agent, 4, Request::AlarmsNext { number: 0 }, &mut out)?;
-    assert_eq!(rt; contents(&out), [0; 32]);
+    assert!(rt; gives(&mut agent, 4, first_row, &[0; 32]));
     Ok(())
 }

@@ -1,9 +1,8 @@
 //! What the unit puts by for an upload, and for how long.
 
-use crate::played::{SOFTWARE, ask, contents, wait};
+use crate::played::{carries, gives, started, wait};
 use omci_contents::Request;
-use omci_core::Packet;
-use onu_agent::{Agent, Did, Note};
+use onu_agent::Note;
 use std::test::Fail;
 
 /// The piece of ONU data: attribute 1, which is zero.
@@ -14,25 +13,22 @@ const FIRST_PIECE: [u8; 32] = [
 
 #[test]
 fn a_snapshot_is_dropped_a_minute_after_its_last_piece(rt: HostRuntime) -> Result<(), Fail> {
-    let mut agent = Agent::start(rt.alloc(), SOFTWARE)?;
-    let mut out = Packet::new();
-    let did = ask(&mut agent, 1, Request::Upload, &mut out)?;
-    assert_eq!(rt;
-        did,
-        Did::Carried {
-            note: Some(Note::Snapshot {
-                entities: 11,
-                counter: 0
-            })
-        }
-    );
+    let mut agent = started(rt.alloc())?;
+    let note = Note::Snapshot {
+        entities: 11,
+        counter: 0,
+    };
+    assert!(rt; carries(&mut agent, 1, Request::Upload, note));
     wait(&mut agent, 59);
-    let did = ask(&mut agent, 2, Request::UploadNext { number: 0 }, &mut out)?;
-    assert_eq!(rt; did, Did::Carried { note: None });
-    assert_eq!(rt; contents(&out), FIRST_PIECE);
+    assert!(rt;
+        gives(
+            &mut agent,
+            2,
+            Request::UploadNext { number: 0 },
+            &FIRST_PIECE
+        )
+    );
     wait(&mut agent, 60);
-    let did = ask(&mut agent, 3, Request::UploadNext { number: 1 }, &mut out)?;
-    assert_eq!(rt; did, Did::Carried { note: None });
-    assert_eq!(rt; contents(&out), [0; 32]);
+    assert!(rt; gives(&mut agent, 3, Request::UploadNext { number: 1 }, &[0; 32]));
     Ok(())
 }

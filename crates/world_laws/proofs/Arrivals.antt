@@ -1,5 +1,5 @@
 -- Packets that come to the unit.
-use Rattle.std.proofs.Common.{◌≡◌, ◌≢◌, ℕ, zero, suc, ◌<◌, ◌^◌, Bool, true, false, cond, eqb, List, [], ◌∷◌, ◌++◌, Option, Some, None, slice_get, ◌⊎◌, inl, inr, refl, sym, ap, subst, ◌∙◌, arith, nat_eq}
+use Rattle.std.proofs.Common.{◌≡◌, ◌≢◌, ℕ, zero, suc, ◌<◌, ◌^◌, Bool, true, false, cond, eqb, List, [], ◌∷◌, ◌++◌, reverse, Option, Some, None, slice_get, ◌⊎◌, inl, inr, refl, sym, ap, subst, ◌∙◌, arith, nat_eq}
 use Rattle.std.proofs.lemmas.Bool.{eqb-true, eqb-false}
 use Rattle.std.proofs.lemmas.Bool.Decides.{nat_tests}
 use Rattle.omci_types.specs.declared.Frame.{Frame}
@@ -14,18 +14,20 @@ use Rattle.manager_spec.specs.Manager.{Manager}
 use Rattle.unit_spec.specs.declared.Note.{Note}
 use Rattle.unit_spec.specs.declared.Did.{Did}
 use Rattle.unit_spec.specs.declared.Did.TheVariants as did
-use Rattle.unit_spec.specs.Onu.{Onu, Reception, Answer, drop_packet, keep_reply, unless_kept, take_request, onu_received}
-use Rattle.history_spec.specs.History.{CarriedOut}
+use Rattle.omci_types.specs.declared.Boot.{Boot}
+use Rattle.unit_spec.specs.declared.Note.TheVariants as note
+use Rattle.unit_spec.specs.Onu.{Onu, Reception, Answer, drop_packet, keep_reply, unless_leaving, unless_kept, take_request, onu_received}
+use Rattle.history_spec.specs.History.{CarriedOut, TookSnapshot, TookAlarms}
 use Rattle.moves_spec.specs.Channel.{Transaction, place_number, RequestOf, ReplyTo, KeptReply, Channel, View, lane_view, with_lane_view}
 use Rattle.moves_spec.specs.Moves.{Execution, RequestComes, with_packet, with_floor_down, with_execution, execute, execute_unless, serve, request_if, may_go_down, request_at, after_move}
 use Rattle.moves_laws.proofs.Numbers.{place_is_number}
 use Rattle.world_spec.specs.Happenings.{Happening, PacketCame, link_read}
-use Rattle.world_spec.specs.Ends.{unit_deed}
-use Rattle.world_spec.specs.History.{Told, name_at, remark_of, tell_all}
+use Rattle.world_spec.specs.Ends.{unit_deed, stored}
+use Rattle.world_spec.specs.History.{Told, name_at, tell_all}
 use Rattle.world_laws.proofs.Tcis.{lane_of_tci, same_number, tci_fits, tci_spelled}
-use Rattle.world_laws.proofs.Likeness.{tci_at, one_more, IsKept, IsUnit, Like, some_unit, Follows}
-use Rattle.world_laws.proofs.Unit.{IsAsked, reception_is}
-use Rattle.world_laws.proofs.Following.{remark_follows}
+use Rattle.world_laws.proofs.Likeness.{tci_at, one_more, IsKept, IsUnit, Like, some_unit, like_same_kept, Follows}
+use Rattle.world_laws.proofs.Unit.{IsSilent, IsAsked, reception_is}
+use Rattle.world_laws.proofs.Following.{then_happens, remark_follows, entries_follow}
 
 -- ---- what came
 
@@ -224,17 +226,36 @@ pub record Stands (l : Priority) (tr : Transaction) (i : ℕ) (s : Sent) (names 
   pub name : name_at i names ≡ tr.id
   pub may : may_go_down i (lane_view l p) ≡ true
 
-dropped_follows : (l : Priority) (tr : Transaction) (i : ℕ) (s : Sent) (link : Link) (lives : ℕ)
-    (u : Onu) (manager : Option Manager) (t : Told) (p : Channel)
+-- nothing is made of it, and what the unit keeps stays
+pub idle_follows : (l : Priority) (tr : Transaction) (i : ℕ) (s : Sent) (link : Link) (lives : ℕ)
+    (u w : Onu) (manager : Option Manager) (t : Told) (p : Channel) → w.kept ≡ u.kept
     → Stands l tr i s t.names p → Like link lives (Some u) manager t p
-    → let hs = arrival i s did.Dropped [] u lives in Follows (link_read hs link) lives (Some u)
-    manager (tell_all hs t) p
-dropped_follows l tr i s link lives u manager t p a h = (
+    → Follows (delivered_on i s link) lives (Some w) manager (came_told i s t) p
+idle_follows l tr i s link lives u w manager t p k a h = (
   RequestComes i None ∷ [],
-  subst (λ q. Like (delivered_on i s link) lives (Some u) manager (came_told i s t) q)
+  subst (λ q. Like (delivered_on i s link) lives (Some w) manager (came_told i s t) q)
       (sym (request_goes l tr i None p a.at a.may))
-      (came_down l tr.place i s link lives (Some u) manager t p a.way a.tci h),
+      (like_same_kept (delivered_on i s link) lives u w manager (came_told i s t) _ k
+      (came_down l tr.place i s link lives (Some u) manager t p a.way a.tci h)),
 )
+
+-- the unit drops it, or holds it
+silent_follows : (d : Did) (l : Priority) (tr : Transaction) (i : ℕ) (s : Sent) (reply : List ℕ)
+    (link : Link) (lives : ℕ) (u w : Onu) (manager : Option Manager) (t : Told) (p : Channel)
+    → (d ≡ did.Dropped) ⊎ (d ≡ did.Held) → w.kept ≡ u.kept
+    → Stands l tr i s t.names p → Like link lives (Some u) manager t p
+    → let hs = arrival i s d reply u lives in Follows (link_read hs link) lives (Some w)
+    manager (tell_all hs t) p
+silent_follows did.Dropped l tr i s reply link lives u w manager t p is k a h =
+    idle_follows l tr i s link lives u w manager t p k a h
+silent_follows did.Held l tr i s reply link lives u w manager t p is k a h =
+    idle_follows l tr i s link lives u w manager t p k a h
+silent_follows did.Kept l tr i s reply link lives u w manager t p (inl e) k a h = absurd (cc)
+silent_follows did.Kept l tr i s reply link lives u w manager t p (inr e) k a h = absurd (cc)
+silent_follows (did.Carried note) l tr i s reply link lives u w manager t p (inl e) k a h =
+    absurd (cc)
+silent_follows (did.Carried note) l tr i s reply link lives u w manager t p (inr e) k a h =
+    absurd (cc)
 
 -- ---- it gives the kept reply again
 
@@ -412,10 +433,20 @@ noted_follows : (note : Option Note) (i : ℕ) (s : Sent) (reply : List ℕ) (li
     (Some w) manager (tell_all hs t) p
 noted_follows None i s reply link lives u w manager t p h =
     (RequestComes i (Some (record { reply = reply; before = u.database })) ∷ [], h)
-noted_follows (Some note) i s reply link lives u w manager t p h =
-    let more = remark_follows (remark_of lives (name_at i t.names) note u) _ lives (Some w)
+noted_follows (Some (note.Snapshot entities counter)) i s reply link lives u w manager t p h =
+    let more = remark_follows (TookSnapshot lives (name_at i t.names) u.database) _ lives (Some w)
     manager (executed_told i s lives reply u t) _ h in
     (RequestComes i (Some (record { reply = reply; before = u.database })) ∷ more.0, more.1)
+noted_follows (Some (note.Alarms rows)) i s reply link lives u w manager t p h =
+    let more = remark_follows (TookAlarms lives (name_at i t.names) u.log.alarms) _ lives (Some w)
+    manager (executed_told i s lives reply u t) _ h in
+    (RequestComes i (Some (record { reply = reply; before = u.database })) ∷ more.0, more.1)
+noted_follows (Some (note.Sealed slot size check)) i s reply link lives u w manager t p h =
+    (RequestComes i (Some (record { reply = reply; before = u.database })) ∷ [], h)
+noted_follows (Some (note.Committed slot)) i s reply link lives u w manager t p h =
+    (RequestComes i (Some (record { reply = reply; before = u.database })) ∷ [], h)
+noted_follows (Some (note.Leaving boot)) i s reply link lives u w manager t p h =
+    (RequestComes i (Some (record { reply = reply; before = u.database })) ∷ [], h)
 
 -- ---- what the unit makes of it
 
@@ -438,8 +469,30 @@ asked_is f a u = refl
 abbrev pub ReceptionFollows : Reception → ℕ → Sent → Onu → Link → ℕ → Option Manager → Told
     → Channel → Type 0
 ReceptionFollows r i s u link lives manager t p =
-    let hs = arrival i s r.did r.reply u lives in Follows (link_read hs link) lives (Some r.unit)
-    manager (tell_all hs t) p
+    let hs = arrival i s r.did r.reply u lives ++ stored r.stored in
+    Follows (link_read hs link) lives (Some r.unit) manager (tell_all hs t) p
+
+-- the store's entries come last
+with_entries : (r : Reception) (i : ℕ) (s : Sent) (u : Onu) (link : Link) (lives : ℕ)
+    (manager : Option Manager) (t : Told) (p : Channel)
+    → (let hs = arrival i s r.did r.reply u lives in
+    Follows (link_read hs link) lives (Some r.unit) manager (tell_all hs t) p)
+    → ReceptionFollows r i s u link lives manager t p
+with_entries r i s u link lives manager t p f =
+    then_happens (arrival i s r.did r.reply u lives) (stored r.stored) link lives lives
+    (Some r.unit) (Some r.unit) manager manager t p f
+    (λ q k. entries_follow (reverse r.stored) _ lives (Some r.unit) manager _ q k)
+
+-- a unit that leaves drops it
+leaving_follows : (leaving : Option Boot) (r : Reception) (l : Priority) (tr : Transaction) (i : ℕ)
+    (s : Sent) (link : Link) (lives : ℕ) (u : Onu) (manager : Option Manager) (t : Told)
+    (p : Channel) → Stands l tr i s t.names p → Like link lives (Some u) manager t p
+    → ReceptionFollows r i s u link lives manager t p
+    → ReceptionFollows (unless_leaving leaving r u) i s u link lives manager t p
+leaving_follows None r l tr i s link lives u manager t p st h f = f
+leaving_follows (Some boot) r l tr i s link lives u manager t p st h f =
+    with_entries (drop_packet u) i s u link lives manager t p
+    (silent_follows did.Dropped l tr i s [] link lives u u manager t p (inl refl) refl st h)
 
 asked_follows : (l : Priority) (tr : Transaction) (i : ℕ) (s : Sent) (f : Frame) (a : Answer)
     (link : Link) (lives : ℕ) (u : Onu) (manager : Option Manager) (t : Told) (p : Channel)
@@ -450,18 +503,24 @@ asked_follows : (l : Priority) (tr : Transaction) (i : ℕ) (s : Sent) (f : Fram
 asked_follows l tr i s f a link lives u manager t p st h tci reply same (inl k) =
     let lane : priority_of f.tci ≡ l = ap priority_of tci ∙ lane_of_tci l (place_number tr.place)
     (place_is_number tr.place) in
-    let is : take_request f a u ≡ record { unit = u; did = did.Kept; reply = k.reply.packet } =
+    let is : take_request f a u
+    ≡ record { unit = u; did = did.Kept; reply = k.reply.packet; stored = [] } =
     asked_is f a u ∙ ap (λ o. unless_kept o f.tci a u)
     (kept_for_is l f.tci u.kept lane ∙ k.answers) in
     subst (λ r. ReceptionFollows r i s u link lives manager t p) (sym is)
-    (repeat_follows l tr i s k.reply link lives u manager t p st h k.is (k.same ∙ tci))
+    (with_entries
+    (record { unit = u; did = did.Kept; reply = k.reply.packet; stored = [] })
+    i s u link lives manager t p
+    (repeat_follows l tr i s k.reply link lives u manager t p st h k.is (k.same ∙ tci)))
 asked_follows l tr i s f a link lives u manager t p st h tci reply same (inr k) =
     let lane : priority_of f.tci ≡ l = ap priority_of tci ∙ lane_of_tci l (place_number tr.place)
     (place_is_number tr.place) in
-    let is : take_request f a u ≡ keep_reply f.tci a =
+    let is : take_request f a u ≡ unless_leaving u.leaving (keep_reply f.tci a) u =
     asked_is f a u ∙ ap (λ o. unless_kept o f.tci a u)
     (kept_for_is l f.tci u.kept lane ∙ k.answers) in
     subst (λ r. ReceptionFollows r i s u link lives manager t p) (sym is)
+    (leaving_follows u.leaving (keep_reply f.tci a) l tr i s link lives u manager t p st h
+    (with_entries (keep_reply f.tci a) i s u link lives manager t p
     (noted_follows a.note i s (spelling a.reply) link lives u (keep_reply f.tci a).unit manager t p
     (executed_move l tr i s (spelling a.reply) link lives u (keep_reply f.tci a).unit manager t p
     st h
@@ -470,15 +529,15 @@ asked_follows l tr i s f a link lives u manager t p st h tci reply same (inr k) 
     lane ∙ ap (λ n. keep_in l (record { tci = n; packet = spelling a.reply }) u.kept) tci)
     (tci_spelled a.reply
     (subst (λ n. n < 2 ^ 16) (sym reply)
-    (tci_fits l (place_number tr.place) (place_is_number tr.place))) ∙ reply)))
+    (tci_fits l (place_number tr.place) (place_is_number tr.place))) ∙ reply)))))
 
 reception_follows : (l : Priority) (tr : Transaction) (i : ℕ) (s : Sent) (r : Reception)
     (link : Link) (lives : ℕ) (u : Onu) (manager : Option Manager) (t : Told) (p : Channel)
-    → Stands l tr i s t.names p → Like link lives (Some u) manager t p → (r ≡ drop_packet u)
+    → Stands l tr i s t.names p → Like link lives (Some u) manager t p → IsSilent u r
     ⊎ IsAsked (packet_tci s.bytes) u r → ReceptionFollows r i s u link lives manager t p
-reception_follows l tr i s r link lives u manager t p st h (inl drops) =
-    subst (λ r. ReceptionFollows r i s u link lives manager t p) (sym drops)
-    (dropped_follows l tr i s link lives u manager t p st h)
+reception_follows l tr i s r link lives u manager t p st h (inl k) =
+    with_entries r i s u link lives manager t p
+    (silent_follows r.did l tr i s r.reply link lives u r.unit manager t p k.did_is k.kept st h)
 reception_follows l tr i s r link lives u manager t p st h (inr k) =
     subst (λ r. ReceptionFollows r i s u link lives manager t p) (sym k.is)
     (asked_follows l tr i s k.frame k.answer link lives u manager t p st h (k.same ∙ st.tci)
@@ -487,7 +546,7 @@ reception_follows l tr i s r link lives u manager t p st h (inr k) =
 pub unit_follows : (l : Priority) (tr : Transaction) (i : ℕ) (s : Sent) (link : Link) (lives : ℕ)
     (u : Onu) (manager : Option Manager) (t : Told) (p : Channel)
     → Stands l tr i s t.names p → Like link lives (Some u) manager t p
-    → ReceptionFollows (onu_received s.bytes u) i s u link lives manager t p
+    → ReceptionFollows (onu_received false s.bytes u) i s u link lives manager t p
 unit_follows l tr i s link lives u manager t p st h =
-    reception_follows l tr i s (onu_received s.bytes u) link lives u manager t p st h
+    reception_follows l tr i s (onu_received false s.bytes u) link lives u manager t p st h
     (reception_is s.bytes u)

@@ -6,14 +6,15 @@ use Rattle.link_spec.specs.Link.{Link}
 use Rattle.upload_spec.specs.Pieces.{Copy}
 use Rattle.manager_spec.specs.declared.Report.{Report}
 use Rattle.manager_spec.specs.declared.Report.TheVariants as report
-use Rattle.manager_spec.specs.Manager.{Manager, Sending, Outcome, and_then}
+use Rattle.store_spec.specs.History.{StoreEntry}
+use Rattle.manager_spec.specs.Manager.{Stage, EndingImage, Manager, Sending, Outcome, and_then}
 use Rattle.unit_spec.specs.Onu.{Onu}
 use Rattle.alarm_spec.specs.Alarms.{Alarm}
-use Rattle.history_spec.specs.History.{Remark, Remarked, Synced, Audited}
+use Rattle.history_spec.specs.History.{Remark, Remarked, Synced, Audited, Stored, Downloaded}
 use Rattle.moves_spec.specs.Channel.{Channel}
 use Rattle.moves_spec.specs.Moves.{Write, after_moves}
-use Rattle.world_spec.specs.Happenings.{Happening, ReplyTaken, NoticeTaken, link_read, on_link}
-use Rattle.world_spec.specs.Ends.{sends, copy_told, report_told}
+use Rattle.world_spec.specs.Happenings.{Happening, ReplyTaken, NoticeTaken, ImageStored, link_read, on_link}
+use Rattle.world_spec.specs.Ends.{sends, copy_told, report_told, image_told, download_told}
 use Rattle.world_spec.specs.History.{Told, tell, tell_all}
 use Rattle.world_laws.proofs.Likeness.{Like, Follows, after_both, SameLanes, like_same_lanes}
 
@@ -204,7 +205,7 @@ noticed_sends m o link lives unit t p f h =
     (notices_follow o.noticed link lives unit (Some m) t p h)
     (λ q k. reported_sends m o _ lives unit _ q f k)
 
--- what happens with an outcome
+-- what happens with an outcome, but for a download that has ended
 abbrev pub deeds_of : Outcome → List Happening
 deeds_of o =
     map ReplyTaken o.taken
@@ -219,15 +220,74 @@ replies_and_rest o =
     ∙ append_assoc (map ReplyTaken o.taken) (map NoticeTaken o.noticed)
     (flat_map (report_told o.manager) o.manager.reports ++ flat_map sends o.sendings)
 
--- with what happened before, once the replies that were taken are told
-pub outcome_happens : (first : List Happening) (m : Manager) (o : Outcome) (link : Link)
+-- the same once the replies that were taken are told
+deeds_happen : (first : List Happening) (m : Manager) (o : Outcome) (link : Link)
     (lives : ℕ) (unit : Option Onu) (t : Told) (p : Channel)
     → Happens (first ++ map ReplyTaken o.taken) link lives unit (Some m) t p → OutcomeFollows m o
     → Happens (first ++ deeds_of o) link lives unit (Some (record o.manager { reports = [] })) t p
-outcome_happens first m o link lives unit t p one f =
+deeds_happen first m o link lives unit t p one f =
     subst (λ hs. Happens hs link lives unit (Some (record o.manager { reports = [] })) t p)
     (append_assoc first (map ReplyTaken o.taken) (rest_of o)
     ∙ ap (λ hs. first ++ hs) (sym (replies_and_rest o)))
     (then_happens (first ++ map ReplyTaken o.taken) (rest_of o) link lives lives unit unit (Some m)
     (Some (record o.manager { reports = [] })) t p one
     (λ q k. noticed_sends m o _ lives unit _ q f k))
+
+-- ---- a download has ended
+
+image_follows : (before : Option Stage) (slot : ℕ) (link : Link) (lives : ℕ) (unit : Option Onu)
+    (manager : Option Manager) (t : Told) (p : Channel) → Like link lives unit manager t p
+    → Happens (image_told before slot) link lives unit manager t p
+image_follows None slot link lives unit manager t p h = ([], h)
+image_follows (Some (EndingImage order image busy)) slot link lives unit manager t p h =
+    remark_follows (Downloaded slot image) link lives unit manager t p h
+image_follows (Some _) slot link lives unit manager t p h = ([], h)
+
+download_follows : (before : Option Stage) (r : Report) (link : Link) (lives : ℕ)
+    (unit : Option Onu) (manager : Option Manager) (t : Told) (p : Channel)
+    → Like link lives unit manager t p
+    → Happens (download_told before r) link lives unit manager t p
+download_follows before (report.ImageDone slot) link lives unit manager t p h =
+    image_follows before slot link lives unit manager t p h
+download_follows before _ link lives unit manager t p h = ([], h)
+
+downloads_follow : (before : Option Stage) (rs : List Report) (link : Link) (lives : ℕ)
+    (unit : Option Onu) (manager : Option Manager) (t : Told) (p : Channel)
+    → Like link lives unit manager t p
+    → Happens (flat_map (download_told before) rs) link lives unit manager t p
+downloads_follow before [] link lives unit manager t p h = ([], h)
+downloads_follow before (r ∷ rs) link lives unit manager t p h =
+    then_happens (download_told before r) (flat_map (download_told before) rs) link lives lives
+    unit unit manager manager t p (download_follows before r link lives unit manager t p h)
+    (λ q k. downloads_follow before rs _ lives unit manager _ q k)
+
+-- what happens with an outcome of a manager whose job was in this stage
+abbrev pub all_deeds : Option Stage → Outcome → List Happening
+all_deeds before o = deeds_of o ++ flat_map (download_told before) o.manager.reports
+
+-- with what happened before, once the replies that were taken are told
+pub outcome_happens : (first : List Happening) (before : Option Stage) (m : Manager) (o : Outcome)
+    (link : Link) (lives : ℕ) (unit : Option Onu) (t : Told) (p : Channel)
+    → Happens (first ++ map ReplyTaken o.taken) link lives unit (Some m) t p → OutcomeFollows m o
+    → Happens (first ++ all_deeds before o) link lives unit
+    (Some (record o.manager { reports = [] })) t p
+outcome_happens first before m o link lives unit t p one f =
+    subst (λ hs. Happens hs link lives unit (Some n) t p)
+    (append_assoc first (deeds_of o) (flat_map (download_told before) o.manager.reports))
+    (then_happens (first ++ deeds_of o) (flat_map (download_told before) o.manager.reports) link
+    lives lives unit unit (Some n) (Some n) t p (deeds_happen first m o link lives unit t p one f)
+    (λ q k. downloads_follow before o.manager.reports _ lives unit (Some n) _ q k))
+  where
+    n : Manager
+    n = record o.manager { reports = [] }
+
+-- ---- what the unit's store has for the history
+
+pub entries_follow : (entries : List StoreEntry) (link : Link) (lives : ℕ) (unit : Option Onu)
+    (manager : Option Manager) (t : Told) (p : Channel) → Like link lives unit manager t p
+    → Happens (map ImageStored entries) link lives unit manager t p
+entries_follow [] link lives unit manager t p h = ([], h)
+entries_follow (e ∷ rest) link lives unit manager t p h =
+    then_happens (ImageStored e ∷ []) (map ImageStored rest) link lives lives unit unit manager
+    manager t p (remark_follows (Stored e) link lives unit manager t p h)
+    (λ q k. entries_follow rest link lives unit manager (tell (ImageStored e) t) q k)

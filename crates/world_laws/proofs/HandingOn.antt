@@ -1,5 +1,5 @@
 -- Each reply that the manager hands on was taken right before.
-use Rattle.std.proofs.Common.{◌≡◌, ◌≢◌, ℕ, zero, suc, Bool, true, false, List, [], ◌∷◌, ◌++◌, Option, Some, None, ◌⊎◌, inl, inr, refl, sym, ap, subst, ◌∙◌}
+use Rattle.std.proofs.Common.{◌≡◌, ◌≢◌, ℕ, zero, suc, Bool, true, false, List, [], ◌∷◌, ◌++◌, reverse, Option, Some, None, ◌⊎◌, inl, inr, refl, sym, ap, subst, ◌∙◌}
 use Rattle.std.proofs.lemmas.Option.{same_Some}
 use Rattle.std.specs.Prelude.{map}
 use Rattle.std.specs.List.{All, flat_map}
@@ -26,24 +26,31 @@ use Rattle.unit_spec.specs.declared.Did.{Did}
 use Rattle.unit_spec.specs.declared.Did.TheVariants as did
 use Rattle.unit_spec.specs.declared.Noticed.{Noticed}
 use Rattle.unit_spec.specs.declared.Noticed.TheVariants as noticed
-use Rattle.unit_spec.specs.Onu.{Onu, onu_received}
+use Rattle.unit_spec.specs.Onu.{Onu, onu_received, packet_deed}
 use Rattle.unit_spec.specs.Noticing.{Noticing, onu_sensed, onu_alarmed}
 use Rattle.manager_spec.specs.declared.Refusal.{Refusal}
 use Rattle.manager_spec.specs.declared.Report.{Report}
 use Rattle.manager_spec.specs.declared.Report.TheVariants as report
-use Rattle.manager_spec.specs.Manager.{Manager, Sending, Outcome, lane_in, with_lane, command_sent, manager_started}
-use Rattle.manager_spec.specs.Jobs.{waits_for}
-use Rattle.manager_spec.specs.Submitting.{Submission, unless_refused, probe_refusal, after_probe, submit_refusal, leaves_copy, leave_if, after_submit, check_refusal, after_check, resync_refusal, resync_begun, after_resync, audit_refusal, audit_asked, after_audit}
-use Rattle.manager_spec.specs.Steps.{packet_dropped, after_packet, lane_ticked, tick_lane, after_tick}
-use Rattle.script_spec.specs.Script.{Header, Action, Probe, Reset, Get, Create, Set, Delete, Resync, Audit, Check, Deliver, Flow, NoiseUnit, NoiseOlt, Tick, Sense, Alarm, CutUnit, CutOlt, StartUnit, StartOlt, IsAction}
-use Rattle.world_spec.specs.Happenings.{Happening, PacketCame, ReplyTaken, NoticeTaken, Reported}
-use Rattle.world_spec.specs.Ends.{Ends, Step, still, not_enabled, preceded, if_drawn, if_asked, goes_down, sends, copy_told, report_told, notice_sent, unit_notices, manager_did, submission_by, submission, manager_got, manager_ticks, unit_deed, unit_got, arrives_at, arrives, noise, unit_ticks, second, cut_unit, cut_manager, start_unit, start_manager}
-use Rattle.world_spec.specs.Nodes.{Nodes, first_nodes, delivery_of, delivery, nodes_after_step, flow_from, oldest_fresh, flow, acted, next_event, step}
+use Rattle.omci_types.specs.declared.Boot.{Boot}
+use Rattle.slot_spec.specs.declared.Pick.{Pick}
+use Rattle.store_spec.specs.History.{StoreEntry}
+use Rattle.store_spec.specs.Effects.{entries_before}
+use Rattle.unit_spec.specs.declared.TheConstants.{ONU_G}
+use Rattle.manager_spec.specs.Upgrade.{image_entity}
+use Rattle.manager_spec.specs.Resync.{with_job}
+use Rattle.manager_spec.specs.Manager.{Stage, EndingImage, DelayingEnd, Manager, Sending, Outcome, lane_in, with_lane, command_sent, manager_started}
+use Rattle.manager_spec.specs.Jobs.{waits_for, resumed_by}
+use Rattle.manager_spec.specs.Submitting.{Submission, unless_refused, probe_refusal, after_probe, submit_refusal, leaves_copy, leave_if, after_submit, check_refusal, after_check, resync_refusal, resync_begun, after_resync, audit_refusal, audit_asked, after_audit, image_refusal, after_image}
+use Rattle.manager_spec.specs.Steps.{packet_dropped, after_packet, lane_ticked, tick_lane, tick_lanes, after_tick}
+use Rattle.script_spec.specs.Script.{Header, Action, Probe, Reset, Get, Create, Set, Delete, Activate, Commit, Reboot, Resync, Audit, Check, Image, Deliver, Flow, CutIn, NoiseUnit, NoiseOlt, Tick, Sense, Alarm, CutUnit, CutOlt, StartUnit, StartOlt, IsAction}
+use Rattle.world_spec.specs.Happenings.{Happening, PacketCame, ReplyTaken, NoticeTaken, ImageStored, PowerCut, Reported}
+use Rattle.world_spec.specs.Ends.{Ends, Step, still, not_enabled, preceded, if_drawn, if_asked, goes_down, sends, copy_told, report_told, image_told, download_told, stage_in, stored, restarts, unit_cut_amid, cut_at, cut_in, notice_sent, unit_notices, manager_did, submission_by, submission, manager_got, manager_ticks, unit_deed, unit_got, arrives_at, arrives, noise, unit_ticks, second, cut_unit, cut_manager, start_unit, start_manager}
+use Rattle.world_spec.specs.Nodes.{Nodes, first_nodes, cut_of, cut_delivery, delivery_of, delivery, nodes_after_step, flow_from, oldest_fresh, flow, acted, next_event, step}
 use Rattle.world_spec.specs.History.{Told, first_told, tell, tell_all}
 use Rattle.world_laws.specs.Seen.{IsNewest, is_taking, AreHandedOn, HandOn, ScriptHandsOn}
 use Rattle.world_laws.proofs.Keeping.{IsQuiet, AreQuiet, both_quiet, KeepsLanes, leave_if_keeps, give_up_keeps, AreFirst, AreFor, taken_lanes, IsTaking, taking_is, takes_one, takes_no_notice, job_reports, IsBeside, dropped_beside, is_beside}
 use Rattle.world_laws.proofs.Manager.{freed_lane, meant_by, untaken, IsTaken, hearing_is, noise_heard}
-use Rattle.world_laws.proofs.Following.{rest_of, deeds_of, replies_and_rest}
+use Rattle.world_laws.proofs.Following.{rest_of, deeds_of, replies_and_rest, all_deeds}
 use Rattle.world_laws.proofs.Lines.{IsFair}
 use Rattle.world_laws.proofs.Runs.{AllFair, all_fair}
 
@@ -129,6 +136,32 @@ silent_outcome : (o : Outcome) → AreQuiet o.manager.reports → Silent (deeds_
 silent_outcome o q = subst Silent (sym (replies_and_rest o))
     (both_silent (map ReplyTaken o.taken) (rest_of o) (silent_taken o.taken) (silent_rest o q))
 
+silent_image : (before : Option Stage) (slot : ℕ) → Silent (image_told before slot)
+silent_image None slot = λ taken t. tt
+silent_image (Some (EndingImage order image busy)) slot = λ taken t. (tt, tt)
+silent_image (Some _) slot = λ taken t. tt
+
+silent_download : (before : Option Stage) (r : Report) → Silent (download_told before r)
+silent_download before (report.ImageDone slot) = silent_image before slot
+silent_download before _ = λ taken t. tt
+
+silent_downloads : (before : Option Stage) (rs : List Report)
+    → Silent (flat_map (download_told before) rs)
+silent_downloads before [] = λ taken t. tt
+silent_downloads before (r ∷ rs) =
+    both_silent (download_told before r) (flat_map (download_told before) rs)
+    (silent_download before r) (silent_downloads before rs)
+
+silent_deeds : (before : Option Stage) (o : Outcome) → AreQuiet o.manager.reports
+    → Silent (all_deeds before o)
+silent_deeds before o q =
+    both_silent (deeds_of o) (flat_map (download_told before) o.manager.reports)
+    (silent_outcome o q) (silent_downloads before o.manager.reports)
+
+silent_entries : (entries : List StoreEntry) → Silent (map ImageStored entries)
+silent_entries [] = λ taken t. tt
+silent_entries (e ∷ rest) = λ taken t. (tt, silent_entries rest false (tell (ImageStored e) t))
+
 -- ---- a reply that is taken
 
 -- the first report hands the reply on that was taken last
@@ -188,7 +221,7 @@ not_enabled_hands e t c = record { handed = (tt, tt); cleared = c }
 manager_hands : (o : Outcome) (e : Ends) (t : Told) → AreQuiet o.manager.reports
     → HandsOn (manager_did o e) t
 manager_hands o e t q = record {
-  handed = silent_outcome o q false t;
+  handed = silent_deeds (stage_in e.manager) o q false t;
   cleared = cleared_as (record o.manager { reports = [] }) refl;
 }
 
@@ -256,11 +289,17 @@ audit_silent : IsSilent after_audit
 unfolding after_audit
 audit_silent = λ m q. unless_silent (audit_refusal m) (audit_asked m) m q q
 
+image_silent : (slot asked : ℕ) (check : Option ℕ) (image : List ℕ)
+    → IsSilent (after_image slot asked check image)
+unfolding after_image
+image_silent slot asked check image = λ m q. unless_silent (image_refusal m) _ m q q
+
 -- ---- packets and noise
 
 silent_deed : (d : Did) (reply : List ℕ) (before : Onu) (life : ℕ)
     → Silent (unit_deed d reply before life)
 silent_deed did.Dropped reply before life = λ taken t. (tt, tt)
+silent_deed did.Held reply before life = λ taken t. (tt, tt)
 silent_deed did.Kept reply before life = λ taken t. (tt, (tt, tt))
 silent_deed (did.Carried None) reply before life = λ taken t. (tt, (tt, tt))
 silent_deed (did.Carried (Some note)) reply before life = λ taken t. (tt, (tt, (tt, tt)))
@@ -269,10 +308,11 @@ unit_hands : (first : List Happening) (bytes : List ℕ) (o : Option Onu) (e : E
     → Silent first → IsCleared e.manager → HandsOn (unit_got first bytes o e) t
 unit_hands first bytes None e t s c = not_enabled_hands e t c
 unit_hands first bytes (Some u) e t s c =
-    let r = onu_received bytes u in
+    let r = onu_received false bytes u in
     record {
-      handed = both_silent first (unit_deed r.did r.reply u e.lives) s
-          (silent_deed r.did r.reply u e.lives) false t;
+      handed = both_silent first (unit_deed r.did r.reply u e.lives ++ stored r.stored) s
+          (both_silent (unit_deed r.did r.reply u e.lives) (stored r.stored)
+          (silent_deed r.did r.reply u e.lives) (silent_entries (reverse r.stored))) false t;
       cleared = c;
     }
 
@@ -286,18 +326,22 @@ outcome_hands : (i : ℕ) (s : Sent) (o : Outcome) (m : Manager) (e : Ends) (t :
 outcome_hands i s o m e t none (inl drops) = record {
   handed = (
     tt,
-    silent_outcome o (beside_quiet m o none (is_beside (packet_frame s.bytes) m o drops)) false
+    silent_deeds (stage_in e.manager) o
+        (beside_quiet m o none (is_beside (packet_frame s.bytes) m o drops)) false
         (tell (PacketCame i s) t),
   );
   cleared = cleared_as (record o.manager { reports = [] }) refl;
 }
 outcome_hands i s o m e t none (inr k) = record {
-  handed = reply_handed probe k.frame l i s o t
+  handed = handed_then false (PacketCame i s ∷ deeds_of o)
+      (flat_map (download_told (stage_in e.manager)) o.manager.reports) t
+      (reply_handed probe k.frame l i s o t
       (ap (λ x. x.taken) k.is ∙ takes_one probe l meant taking.taken)
       (ap (λ x. x.noticed) k.is ∙ takes_no_notice meant taking.noticed)
       (subst (AreFor probe k.frame)
       (sym (ap (λ x. x.manager.reports) k.is ∙ job_reports meant.manager))
-      (taking.told (lane_reports l _ m ∙ none))) k.read;
+      (taking.told (lane_reports l _ m ∙ none))) k.read)
+      (silent_downloads (stage_in e.manager) o.manager.reports false _);
   cleared = cleared_as (record o.manager { reports = [] }) refl;
 }
   where
@@ -364,7 +408,7 @@ noise_hands bytes None e t f c n = not_enabled_hands e t c
 noise_hands bytes (Some m) e t f c n =
     subst (λ o. HandsOn (preceded [] (manager_did o e)) t) (sym (noise_heard bytes m n))
     (record {
-      handed = silent_outcome (packet_dropped m)
+      handed = silent_deeds (stage_in e.manager) (packet_dropped m)
           (beside_quiet m (packet_dropped m) (c m f) (dropped_beside m)) false t;
       cleared = cleared_as (record m { reports = [] }) refl;
     })
@@ -385,9 +429,19 @@ tick_quiet : (l : Priority) (m : Manager) → AreQuiet m.reports
 tick_quiet l m q = ticked_quiet (lane_tick (lane_in l m)).tick l (lane_in l m).outstanding
     (lane_tick (lane_in l m)).lane m q
 
+resumed_quiet : (job : Option Stage) (m : Manager) → AreQuiet m.reports
+    → AreQuiet (resumed_by job m).manager.reports
+resumed_quiet None m q = q
+resumed_quiet (Some (DelayingEnd order image busy)) m q =
+    subst AreQuiet (sym (job_reports (with_job (Some (EndingImage order image busy)) m))) q
+resumed_quiet (Some _) m q = q
+
 both_ticks_quiet : (m : Manager) → AreQuiet m.reports → AreQuiet (after_tick m).manager.reports
 unfolding after_tick
-both_ticks_quiet m q = tick_quiet Low (tick_lane High m).manager (tick_quiet High m q)
+both_ticks_quiet m q =
+    let lanes = tick_lanes m in
+    resumed_quiet lanes.manager.job lanes.manager
+    (tick_quiet Low (tick_lane High m).manager (tick_quiet High m q))
 
 manager_second_hands : (o : Option Manager) (e : Ends) (t : Told) → e.manager ≡ o
     → IsCleared e.manager → HandsOn (manager_ticks o e) t
@@ -395,10 +449,15 @@ manager_second_hands None e t f c = still_hands e t c
 manager_second_hands (Some m) e t f c =
     manager_hands (after_tick m) e t (both_ticks_quiet m (none_quiet m (c m f)))
 
+restart_hands : (leaving : Option Boot) (u : Onu) (e : Ends) (t : Told) → IsCleared e.manager
+    → HandsOn (restarts leaving u e) t
+restart_hands None u e t c = record { handed = tt; cleared = c }
+restart_hands (Some boot) u e t c = record { handed = (tt, tt); cleared = c }
+
 unit_second_hands : (o : Option Onu) (e : Ends) (t : Told) → IsCleared e.manager
     → HandsOn (unit_ticks o e) t
 unit_second_hands None e t c = record { handed = tt; cleared = c }
-unit_second_hands (Some u) e t c = record { handed = tt; cleared = c }
+unit_second_hands (Some u) e t c = restart_hands u.leaving u e t c
 
 second_hands : (e : Ends) (t : Told) → IsCleared e.manager → HandsOn (second e) t
 unfolding second
@@ -448,11 +507,39 @@ start_manager_hands low high (Some m) e t c = not_enabled_hands e t c
 start_manager_hands low high None e t c =
     record { handed = (tt, tt); cleared = cleared_as (manager_started low high) refl }
 
+cut_amid_hands : (call : ℕ) (pick : Pick) (number : ℕ) (s : Sent) (o : Option Onu) (e : Ends)
+    (t : Told) → IsCleared e.manager
+    → HandsOn (unit_cut_amid call pick (PacketCame number s ∷ []) s.bytes o e) t
+cut_amid_hands call pick number s None e t c = not_enabled_hands e t c
+cut_amid_hands call pick number s (Some u) e t c =
+    let entries = reverse (entries_before (packet_deed s.bytes u)) in
+    record {
+      handed = (
+        tt,
+        both_silent (map ImageStored entries) (PowerCut ∷ []) (silent_entries entries)
+            (λ taken v. (tt, tt)) false (tell (PacketCame number s) t),
+      );
+      cleared = c;
+    }
+
+cut_at_hands : (call : ℕ) (pick : Pick) (d : Direction) (number : ℕ) (s : Sent) (e : Ends)
+    (t : Told) → IsCleared e.manager
+    → HandsOn (cut_at call pick d (PacketCame number s ∷ []) s.bytes e) t
+cut_at_hands call pick Down number s e t c = cut_amid_hands call pick number s e.unit e t c
+cut_at_hands call pick Up number s e t c = not_enabled_hands e t c
+
+cut_of_hands : (call : ℕ) (pick : Pick) (o : Option Sent) (number : ℕ) (e : Ends) (t : Told)
+    → IsCleared e.manager → HandsOn (cut_of call pick o number e) t
+unfolding cut_in
+cut_of_hands call pick None number e t c = not_enabled_hands e t c
+cut_of_hands call pick (Some s) number e t c =
+    cut_at_hands call pick s.direction number s e t c
+
 -- ---- lines
 
 acted_hands : (a : Action) (n : Nodes) (t : Told) → IsFair a → IsCleared n.ends.manager
     → HandsOn (acted a n) t
-unfolding acted noise
+unfolding acted noise cut_delivery
 acted_hands (Probe lane) n t f c =
     submission_hands (after_probe lane) n.ends.manager n.ends t refl c (probe_silent lane)
 acted_hands (Reset lane) n t f c =
@@ -472,6 +559,20 @@ acted_hands (Set lane entity mask values) n t f c =
 acted_hands (Delete lane entity) n t f c =
     submission_hands (after_submit lane entity request.Delete) n.ends.manager n.ends t refl c
     (submit_silent lane entity request.Delete)
+acted_hands (Activate lane slot) n t f c =
+    submission_hands (after_submit lane (image_entity slot) (request.Activate 0)) n.ends.manager
+    n.ends t refl c (submit_silent lane (image_entity slot) (request.Activate 0))
+acted_hands (Commit lane slot) n t f c =
+    submission_hands (after_submit lane (image_entity slot) request.Commit) n.ends.manager n.ends t
+    refl c (submit_silent lane (image_entity slot) request.Commit)
+acted_hands (Reboot lane) n t f c =
+    submission_hands (after_submit lane ONU_G (request.Reboot 0)) n.ends.manager n.ends t refl c
+    (submit_silent lane ONU_G (request.Reboot 0))
+acted_hands (Image slot asked check image) n t f c =
+    submission_hands (after_image slot asked check image) n.ends.manager n.ends t refl c
+    (image_silent slot asked check image)
+acted_hands (CutIn number call pick) n t f c =
+    cut_of_hands call pick (allowed number n.link) number n.ends t c
 acted_hands Resync n t f c =
     submission_hands after_resync n.ends.manager n.ends t refl c resync_silent
 acted_hands Audit n t f c =

@@ -1,10 +1,10 @@
 -- What in the manager's steps leaves its lanes alone, and which reports it adds.
-use Rattle.std.proofs.Common.{◌≡◌, ℕ, ◌==◌, Bool, true, false, List, [], ◌∷◌, ◌++◌, Option, Some, None, Result, Ok, Err, is_some, nat_le, ◌⊎◌, inl, inr, refl, sym, ap, subst, ◌∙◌, append_assoc}
+use Rattle.std.proofs.Common.{◌≡◌, ℕ, ◌==◌, Bool, true, false, List, [], ◌∷◌, ◌++◌, Option, Some, None, Result, Ok, Err, is_some, nat_le, nat_lt, ◌+◌, ◌⊎◌, inl, inr, refl, sym, ap, subst, ◌∙◌, append_assoc}
 use Rattle.std.proofs.lemmas.List.{append-nil}
 use Rattle.omci_types.specs.declared.EntityId.{EntityId}
 use Rattle.omci_types.specs.declared.Frame.{Frame}
 use Rattle.omci_types.specs.declared.Priority.{Priority}
-use Rattle.omci_types.specs.declared.TheConstants.Code.{SUCCESS}
+use Rattle.omci_types.specs.declared.TheConstants.Code.{SUCCESS, BUSY}
 use Rattle.message_spec.specs.declared.ContentsFault.{ContentsFault}
 use Rattle.message_spec.specs.declared.Message.{Message}
 use Rattle.message_spec.specs.declared.Message.TheVariants.{Asked, Answered, Told}
@@ -36,13 +36,17 @@ use Rattle.manager_spec.specs.declared.Job.{Job}
 use Rattle.manager_spec.specs.declared.Job.TheVariants as jobs
 use Rattle.manager_spec.specs.declared.Report.{Report}
 use Rattle.manager_spec.specs.declared.Report.TheVariants as report
-use Rattle.manager_spec.specs.Manager.{Stage, Probing, Asking, Gathering, AskingAlarms, GatheringRows, Manager, Outcome, sends_nothing, and_then, with_report, phase_left, leave_step, step_lost}
-use Rattle.manager_spec.specs.Copying.{followed_if, followed}
+use Rattle.manager_spec.specs.Manager.{Stage, Probing, Asking, Gathering, AskingAlarms, GatheringRows, StartingImage, SendingImage, EndingImage, DelayingEnd, Order, Manager, Outcome, sends_nothing, and_then, with_report, phase_left, leave_step, step_lost}
+use Rattle.manager_spec.specs.declared.ImageReason.TheVariants as images
+use Rattle.manager_spec.specs.declared.TheConstants.{MOST_RESENT, MOST_BUSY}
+use Rattle.window_spec.specs.Outgoing.{Outgoing, is_last}
+use Rattle.manager_spec.specs.Upgrade.{image_failed, refused_by, started_if, image_started, window_taken, window_refused, window_by, window_answered, busy_if, end_by, end_answered}
+use Rattle.manager_spec.specs.Copying.{followed_if, followed, counted_in_step}
 use Rattle.manager_spec.specs.Resync.{with_job, resync_failed, done_if_counted, gather_unless_all, gather_on, piece_by}
 use Rattle.manager_spec.specs.Audit.{with_table, audit_failed, rows_unless_all, rows_on, row_by, audit_lost, alarm_as, alarm_came, notice_came}
-use Rattle.manager_spec.specs.Jobs.{job_of, lost_by, job_lost, send_wish, is_free, wish_in, Wish, job_goes_on}
+use Rattle.manager_spec.specs.Jobs.{job_of, lost_by, job_lost, send_wish, is_free, wish_in, Wish, job_goes_on, resumed_by, job_resumes}
 use Rattle.manager_spec.specs.Submitting.{leave_if}
-use Rattle.manager_spec.specs.Steps.{code_of, response_of, followed_by, expected_counter, compared, counters_compared, first_value, checked_if, checked_by, upload_by, piece_by_reply, alarms_by, row_by_reply, job_by, taken_as, packet_dropped, not_taken, loss_seen}
+use Rattle.manager_spec.specs.Steps.{code_of, response_of, followed_by, expected_counter, compared, counters_compared, first_value, checked_if, checked_by, upload_by, piece_by_reply, alarms_by, row_by_reply, start_by_reply, window_by_reply, end_by_reply, job_by, taken_as, packet_dropped, not_taken, loss_seen}
 use Rattle.world_laws.proofs.Likeness.{SameLanes}
 use Rattle.world_laws.proofs.Manager.{untaken}
 
@@ -232,6 +236,80 @@ row_reply_keeps (Some (response.AlarmsNext row)) expected next f m =
     row_keeps (row_fault row (gathered m.table)) expected next row m
 row_reply_keeps _ expected next f m = keeps_reported (report.Freed f.tci) m tt
 
+refused_keeps : (number : ℕ) (m : Manager) → KeepsLanes m (refused_by number m)
+refused_keeps number m = record {
+  same = record { low = refl; high = refl };
+  added = report.ImageFailed (images.Code (record { 0 = number })) ∷ [];
+  quiet = (tt, tt);
+  reports = refl;
+}
+
+started_keeps : (b : Bool) (number granted : ℕ) (order : Order) (asked : ℕ) (image : List ℕ)
+    (m : Manager) → KeepsLanes m (started_if b number granted order asked image m)
+unfolding counted_in_step
+started_keeps true number granted order asked image m =
+    keeps_others m _ (record { low = refl; high = refl }) refl
+started_keeps false number granted order asked image m = refused_keeps number m
+
+start_keeps : (r : Option Response) (order : Order) (asked : ℕ) (image : List ℕ) (f : Frame)
+    (m : Manager) → KeepsLanes m (start_by_reply r order asked image f m)
+unfolding image_started
+start_keeps (Some (response.Start code window)) order asked image f m =
+    started_keeps (code.0 == SUCCESS.0) code.0 window order asked image m
+start_keeps _ order asked image f m = keeps_reported (report.Freed f.tci) m tt
+
+window_taken_keeps : (b : Bool) (order : Order) (o : Outgoing) (m : Manager)
+    → KeepsLanes m (window_taken b order o m)
+window_taken_keeps true order o m = keeps_others m _ (record { low = refl; high = refl }) refl
+window_taken_keeps false order o m = keeps_others m _ (record { low = refl; high = refl }) refl
+
+window_refused_keeps : (b : Bool) (number : ℕ) (order : Order) (o : Outgoing) (resent : ℕ)
+    (m : Manager) → KeepsLanes m (window_refused b number order o resent m)
+window_refused_keeps true number order o resent m =
+    keeps_others m _ (record { low = refl; high = refl }) refl
+window_refused_keeps false number order o resent m = refused_keeps number m
+
+window_by_keeps : (b : Bool) (number : ℕ) (order : Order) (o : Outgoing) (resent : ℕ)
+    (m : Manager) → KeepsLanes m (window_by b number order o resent m)
+window_by_keeps true number order o resent m = window_taken_keeps (is_last o) order o m
+window_by_keeps false number order o resent m =
+    window_refused_keeps (nat_lt resent MOST_RESENT) number order o resent m
+
+window_keeps : (r : Option Response) (order : Order) (o : Outgoing) (resent : ℕ) (f : Frame)
+    (m : Manager) → KeepsLanes m (window_by_reply r order o resent f m)
+unfolding window_answered
+window_keeps (Some (response.Section code number)) order o resent f m =
+    window_by_keeps (code.0 == SUCCESS.0) code.0 order o resent m
+window_keeps _ order o resent f m = keeps_reported (report.Freed f.tci) m tt
+
+busy_keeps : (b : Bool) (order : Order) (image : List ℕ) (times : ℕ) (m : Manager)
+    → KeepsLanes m (busy_if b order image times m)
+busy_keeps true order image times m = keeps_others m _ (record { low = refl; high = refl }) refl
+busy_keeps false order image times m = refused_keeps BUSY.0 m
+
+end_by_keeps : (done busy : Bool) (number : ℕ) (order : Order) (image : List ℕ) (times : ℕ)
+    (m : Manager) → KeepsLanes m (end_by done busy number order image times m)
+unfolding counted_in_step
+end_by_keeps true busy number order image times m = record {
+  same = record { low = refl; high = refl };
+  added = report.ImageDone order.slot ∷ [];
+  quiet = (tt, tt);
+  reports = refl;
+}
+end_by_keeps false true number order image times m =
+    keeps_both m (with_report (report.Busy (times + 1)) m) _
+    (keeps_reported (report.Busy (times + 1)) m tt)
+    (busy_keeps (nat_le (times + 1) MOST_BUSY) order image (times + 1)
+    (with_report (report.Busy (times + 1)) m))
+end_by_keeps false false number order image times m = refused_keeps number m
+
+end_keeps : (r : Option Response) (order : Order) (image : List ℕ) (busy : ℕ) (f : Frame)
+    (m : Manager) → KeepsLanes m (end_by_reply r order image busy f m)
+unfolding end_answered
+end_keeps (Some (response.End code)) order image busy f m =
+    end_by_keeps (code.0 == SUCCESS.0) (code.0 == BUSY.0) code.0 order image busy m
+end_keeps _ order image busy f m = keeps_reported (report.Freed f.tci) m tt
+
 job_keeps : (job : Option Stage) (r : Option Response) (f : Frame) (m : Manager)
     → KeepsLanes m (job_by job r f m)
 job_keeps None r f m = keeps_reported (report.Freed f.tci) m tt
@@ -240,10 +318,22 @@ job_keeps (Some Asking) r f m = upload_keeps r f m
 job_keeps (Some (Gathering expected next copy)) r f m = reply_keeps r expected next copy f m
 job_keeps (Some AskingAlarms) r f m = alarms_keep r f m
 job_keeps (Some (GatheringRows expected next)) r f m = row_reply_keeps r expected next f m
+job_keeps (Some (StartingImage order asked image)) r f m = start_keeps r order asked image f m
+job_keeps (Some (SendingImage order outgoing resent)) r f m =
+    window_keeps r order outgoing resent f m
+job_keeps (Some (EndingImage order image busy)) r f m = end_keeps r order image busy f m
+job_keeps (Some (DelayingEnd order image busy)) r f m = keeps_reported (report.Freed f.tci) m tt
 
 lost_by_keeps : (job : Job) (tci : ℕ) (m : Manager) → KeepsLanes m (lost_by job tci m)
 lost_by_keeps jobs.Resync tci m = failed_keeps (reason.GaveUp tci) m
 lost_by_keeps jobs.Audit tci m = audit_fails (audit.GaveUp tci) m
+lost_by_keeps jobs.Image tci m =
+    keeps_both m (image_failed (images.GaveUp tci) m) _ (record {
+      same = record { low = refl; high = refl };
+      added = report.ImageFailed (images.GaveUp tci) ∷ [];
+      quiet = (tt, tt);
+      reports = refl;
+    }) (leave_keeps (image_failed (images.GaveUp tci) m))
 
 job_lost_keeps : (job : Option Stage) (tci : ℕ) (m : Manager) → KeepsLanes m (job_lost job tci m)
 job_lost_keeps None tci m = keeps_itself m
@@ -428,6 +518,16 @@ pub job_reports : (m : Manager) → (job_goes_on m).manager.reports ≡ m.report
 unfolding job_goes_on
 job_reports m = wish_reports (is_free m.low) (wish_in m.job) m
 
+resumed_takes : (job : Option Stage) (m : Manager) → (resumed_by job m).taken ≡ []
+resumed_takes None m = refl
+resumed_takes (Some (DelayingEnd order image busy)) m =
+    job_takes (with_job (Some (EndingImage order image busy)) m)
+resumed_takes (Some _) m = refl
+
+-- a second of the job takes no reply
+pub resume_takes : (m : Manager) → (job_resumes m).taken ≡ []
+resume_takes m = resumed_takes m.job m
+
 -- ---- a packet that is no reply
 
 -- no reply is taken, nothing is sent, and none is handed on
@@ -448,6 +548,10 @@ audit_lost_keeps (Some Asking) why m = keeps_itself m
 audit_lost_keeps (Some (Gathering expected next copy)) why m = keeps_itself m
 audit_lost_keeps (Some AskingAlarms) why m = audit_fails why m
 audit_lost_keeps (Some (GatheringRows expected next)) why m = audit_fails why m
+audit_lost_keeps (Some (StartingImage order asked image)) why m = keeps_itself m
+audit_lost_keeps (Some (SendingImage order outgoing resent)) why m = keeps_itself m
+audit_lost_keeps (Some (EndingImage order image busy)) why m = keeps_itself m
+audit_lost_keeps (Some (DelayingEnd order image busy)) why m = keeps_itself m
 
 lost_beside : (r : Report) (why : AuditReason) (m : Manager) → IsQuiet r
     → IsBeside m (sends_nothing (audit_lost m.job why (with_report r m)))

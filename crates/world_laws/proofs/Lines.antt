@@ -1,5 +1,5 @@
 -- Each line of a script is moves, and so is a script.
-use Rattle.std.proofs.Common.{◌≡◌, ◌≢◌, ℕ, zero, suc, ◌+◌, ◌-◌, Bool, true, false, ◌&&◌, List, [], ◌∷◌, length, Option, Some, None, slice_get, ◌⊎◌, inl, inr, refl, sym, ap, subst, ◌∙◌, nat_le}
+use Rattle.std.proofs.Common.{◌≡◌, ◌≢◌, ℕ, zero, suc, ◌+◌, ◌-◌, Bool, true, false, ◌&&◌, List, [], ◌∷◌, ◌++◌, length, reverse, Option, Some, None, slice_get, ◌⊎◌, inl, inr, refl, sym, ap, subst, ◌∙◌, nat_le}
 use Rattle.std.specs.Prelude.{map}
 use Rattle.omci_types.specs.declared.Frame.{Frame}
 use Rattle.omci_types.specs.declared.Priority.{Priority}
@@ -8,7 +8,7 @@ use Rattle.tci_spec.specs.Tci.{IsNumber, priority_of, packet_tci}
 use Rattle.message_spec.specs.declared.Request.TheVariants as request
 use Rattle.frame_spec.specs.Baseline.{fault_of, packet_frame}
 use Rattle.frame_spec.specs.Widths.{filled}
-use Rattle.script_spec.specs.Script.{Action, Probe, Reset, Get, Create, Set, Delete, Resync, Audit, Check, Deliver, Flow, NoiseUnit, NoiseOlt, Tick, Sense, Alarm, CutUnit, CutOlt, StartUnit, StartOlt}
+use Rattle.script_spec.specs.Script.{Action, Probe, Reset, Get, Create, Set, Delete, Activate, Commit, Reboot, Resync, Audit, Check, Image, Deliver, Flow, CutIn, NoiseUnit, NoiseOlt, Tick, Sense, Alarm, CutUnit, CutOlt, StartUnit, StartOlt}
 use Rattle.link_spec.specs.declared.Direction.{Direction}
 use Rattle.link_spec.specs.declared.Direction.TheVariants.{Down, Up}
 use Rattle.link_spec.specs.Link.{Sent, Link, Ways, way_in, way_of, lane_of, is_young, may_come, if_may_come, allowed_one, allowed, count, delivered_on}
@@ -20,23 +20,29 @@ use Rattle.manager_spec.specs.Steps.{packet_dropped, after_packet}
 use Rattle.alarm_spec.specs.declared.TheConstants.{BITMAP_BYTES}
 use Rattle.unit_spec.specs.declared.Noticed.{Noticed}
 use Rattle.unit_spec.specs.declared.Noticed.TheVariants as noticed
-use Rattle.unit_spec.specs.Onu.{Onu, onu_started}
+use Rattle.omci_types.specs.declared.Boot.TheVariants.{PowerUp}
+use Rattle.slot_spec.specs.declared.Pick.{Pick}
+use Rattle.store_spec.specs.History.{StoreEntry}
+use Rattle.store_spec.specs.Effects.{entries_before}
+use Rattle.unit_spec.specs.declared.TheConstants.{ONU_G}
+use Rattle.manager_spec.specs.Upgrade.{image_entity}
+use Rattle.unit_spec.specs.Onu.{Onu, packet_deed}
 use Rattle.unit_spec.specs.Noticing.{Noticing, onu_sensed, onu_alarmed}
 use Rattle.moves_spec.specs.Channel.{Transaction, place_number, LinkPacket, RequestOf, ReplyTo, Unasked, Channel, lane_view}
-use Rattle.moves_spec.specs.Moves.{Move, Notify, UnitStarts, ManagerStarts, may_go_down, may_go_up, after_moves}
+use Rattle.moves_spec.specs.Moves.{Move, Notify, ManagerStarts, may_go_down, may_go_up, after_moves}
 use Rattle.moves_laws.proofs.Numbers.{number_at_first, place_is_number}
-use Rattle.world_spec.specs.Happenings.{PacketCame, ReplyTaken}
-use Rattle.world_spec.specs.Ends.{Step, preceded, manager_did, manager_got, unit_did, unit_got, notice_sent, unit_notices, arrives_at, arrives, noise, cut_unit, cut_manager, start_unit, start_manager}
-use Rattle.world_spec.specs.Nodes.{Nodes, delivery_of, delivery, nodes_after_step, goes_on, flow_from, oldest_fresh, flow, acted, next_event, step}
+use Rattle.world_spec.specs.Happenings.{PacketCame, ReplyTaken, ImageStored, PowerCut}
+use Rattle.world_spec.specs.Ends.{Step, preceded, stage_in, unit_cut_amid, cut_at, cut_in, manager_did, manager_got, unit_did, unit_got, notice_sent, unit_notices, arrives_at, arrives, noise, cut_unit, cut_manager, start_unit, start_manager}
+use Rattle.world_spec.specs.Nodes.{Nodes, cut_of, cut_delivery, delivery_of, delivery, nodes_after_step, goes_on, flow_from, oldest_fresh, flow, acted, next_event, step}
 use Rattle.world_spec.specs.History.{Told, drawn_in, tell_all}
 use Rattle.world_laws.proofs.Tcis.{lane_of_tci, some_tci}
-use Rattle.world_laws.proofs.Likeness.{tci_at, IsPacket, same_length, one_more, at_place, AreWays, lane_like, busy, like_same_kept, Like, some_manager, some_unit, Follows, like_unmanaged}
+use Rattle.world_laws.proofs.Likeness.{tci_at, IsPacket, same_length, one_more, at_place, AreWays, lane_like, busy, like_same_kept, Like, some_manager, Follows, like_unmanaged}
 use Rattle.world_laws.proofs.Unit.{noise_received, IsNoticing, sensed_is, alarmed_is}
 use Rattle.world_laws.proofs.Keeping.{taken_lanes, IsTaking, taking_is, takes_one, IsBeside, is_beside}
 use Rattle.world_laws.proofs.Manager.{freed_lane, meant_by, taken_by, IsTaken, untaken, hearing_is, noise_heard}
-use Rattle.world_laws.proofs.Following.{Happens, then_happens, sends_none, both_follow, outcome_happens}
-use Rattle.world_laws.proofs.Turns.{Rests, StepFollows, no_step, not_enabled_step, own_follows, probe_follows, submit_follows, check_follows, resync_follows, audit_follows, job_follows, second_follows}
-use Rattle.world_laws.proofs.Arrivals.{name_is_at, came_told, Stands, unit_follows}
+use Rattle.world_laws.proofs.Following.{Happens, then_happens, sends_none, both_follow, outcome_happens, entries_follow}
+use Rattle.world_laws.proofs.Turns.{Rests, StepFollows, no_step, not_enabled_step, own_follows, probe_follows, submit_follows, check_follows, resync_follows, audit_follows, image_follows, unit_starts_follow, job_follows, second_follows}
+use Rattle.world_laws.proofs.Arrivals.{name_is_at, came_told, Stands, idle_follows, unit_follows}
 use Rattle.world_laws.proofs.Taking.{Tells, notice_up, Returns, dropped_up, told_taken, taken_up}
 
 -- ---- what may come
@@ -115,7 +121,8 @@ reply_arrives : (l : Priority) (tr : Transaction) (i : ℕ) (s : Sent) (f : Fram
     → Returns l tr i s p → (lane_in l m).outstanding ≡ Some w → packet_tci s.bytes ≡ w.tci
     → StepFollows (preceded (PacketCame i s ∷ []) (manager_did (taken_by l f w m) n.ends)) n t p
 reply_arrives l tr i s f w m n t p h e a waits same =
-    outcome_happens (PacketCame i s ∷ []) x (taken_by l f w m) n.link n.ends.lives n.ends.unit t p
+    outcome_happens (PacketCame i s ∷ []) (stage_in n.ends.manager) x (taken_by l f w m) n.link
+    n.ends.lives n.ends.unit t p
     (subst
     (λ ls. Happens (PacketCame i s ∷ map ReplyTaken ls) n.link n.ends.lives n.ends.unit (Some x) t
     p) (sym (takes_one probe l meant k.taken))
@@ -143,7 +150,8 @@ beside_arrives : (i : ℕ) (s : Sent) (o : Outcome) (m : Manager) (n : Nodes) (t
     → Follows (delivered_on i s n.link) n.ends.lives n.ends.unit (Some m) (came_told i s t) p
     → StepFollows (preceded (PacketCame i s ∷ []) (manager_did o n.ends)) n t p
 beside_arrives i s o m n t p k came =
-    outcome_happens (PacketCame i s ∷ []) m o n.link n.ends.lives n.ends.unit t p
+    outcome_happens (PacketCame i s ∷ []) (stage_in n.ends.manager) m o n.link n.ends.lives
+    n.ends.unit t p
     (subst
     (λ ls. Happens (PacketCame i s ∷ map ReplyTaken ls) n.link n.ends.lives n.ends.unit (Some m) t
     p) (sym k.taken) came) (sends_none m o k.keeps.same k.sends)
@@ -383,23 +391,8 @@ cut_manager_follows (Some m) n t p h =
 
 start_unit_follows : (o : Option Onu) (n : Nodes) (t : Told) (p : Channel) → Rests n t p
     → StepFollows (start_unit o n.ends) n t p
-unfolding onu_started
 start_unit_follows (Some u) n t p h = not_enabled_step n t p h
-start_unit_follows None n t p h =
-    let k = same_length n.link.packets t.names p.shared.packets h.packets in (
-      UnitStarts ∷ [],
-      record {
-        packets = h.packets;
-        ways = record { down_low = k; down_high = k; up_low = k; up_high = k };
-        lives_are = ap (λ x. x + 1) h.lives_are;
-        drawn = h.drawn;
-        history = h.history;
-        unit_is = some_unit (onu_started n.ends.software) None None
-            (record { is_low = tt; is_high = tt });
-        manager_is = λ m e.
-            let q = h.manager_is m e in record { is_low = q.is_low; is_high = q.is_high };
-      },
-    )
+start_unit_follows None n t p h = unit_starts_follow PowerUp n.ends.slots n.ends n.link t p h
 
 start_manager_follows : (low high : ℕ) (o : Option Manager) (n : Nodes) (t : Told) (p : Channel)
     → IsNumber low → IsNumber high → Rests n t p
@@ -424,6 +417,91 @@ start_manager_follows low high None n t p a b h =
       },
     )
 
+-- ---- the power goes amid a delivery
+
+-- the entries before it are remarks
+cut_happens : (entries : List StoreEntry) (link : Link) (lives : ℕ) (u : Onu)
+    (manager : Option Manager) (t : Told) (p : Channel) → Like link lives (Some u) manager t p
+    → Happens (map ImageStored entries ++ PowerCut ∷ []) link lives None manager t p
+cut_happens entries link lives u manager t p h =
+    then_happens (map ImageStored entries) (PowerCut ∷ []) link lives lives (Some u) None manager
+    manager t p (entries_follow entries link lives (Some u) manager t p h)
+    (λ q k. ([], unpowered k))
+  where
+    unpowered : {l : Link} {v : Told} {q : Channel} → Like l lives (Some u) manager v q
+        → Like l lives None manager v q
+    unpowered k = record {
+      packets = k.packets;
+      ways = k.ways;
+      lives_are = k.lives_are;
+      drawn = k.drawn;
+      history = k.history;
+      unit_is = λ x e. absurd (cc);
+      manager_is = k.manager_is;
+    }
+
+unit_cut_follows : (call : ℕ) (pick : Pick) (l : Priority) (tr : Transaction) (i : ℕ) (s : Sent)
+    (o : Option Onu) (n : Nodes) (t : Told) (p : Channel) → Rests n t p → n.ends.unit ≡ o
+    → Stands l tr i s t.names p
+    → StepFollows (unit_cut_amid call pick (PacketCame i s ∷ []) s.bytes o n.ends) n t p
+unit_cut_follows call pick l tr i s None n t p h e a = not_enabled_step n t p h
+unit_cut_follows call pick l tr i s (Some u) n t p h e a =
+    then_happens (PacketCame i s ∷ [])
+    (map ImageStored (reverse (entries_before (packet_deed s.bytes u))) ++ PowerCut ∷ []) n.link
+    n.ends.lives n.ends.lives (Some u) None n.ends.manager n.ends.manager t p
+    (idle_follows l tr i s n.link n.ends.lives u u n.ends.manager t p refl a
+    (subst (λ x. Like n.link n.ends.lives x n.ends.manager t p) e h))
+    (λ q k. cut_happens (reverse (entries_before (packet_deed s.bytes u))) _ n.ends.lives u
+    n.ends.manager _ q k)
+
+direction_cut : (call : ℕ) (pick : Pick) (d : Direction) (i : ℕ) (s : Sent) (n : Nodes) (t : Told)
+    (p : Channel) → s.direction ≡ d
+    → StepFollows (cut_at call pick d (PacketCame i s ∷ []) s.bytes n.ends) n t p
+    → StepFollows (cut_in call pick i s n.ends) n t p
+unfolding cut_in
+direction_cut call pick d i s n t p e f =
+    subst (λ x. StepFollows (cut_at call pick x (PacketCame i s ∷ []) s.bytes n.ends) n t p)
+    (sym e) f
+
+packet_cut : (call : ℕ) (pick : Pick) (i : ℕ) (s : Sent) (name : ℕ) (y : LinkPacket) (n : Nodes)
+    (t : Told) (p : Channel) → Rests n t p → slice_get t.names i ≡ Some name
+    → slice_get p.shared.packets i ≡ Some y → IsPacket s name y → may_come i (way_of s n.link.ways)
+    (count n.link) ≡ true → StepFollows (cut_in call pick i s n.ends) n t p
+packet_cut call pick i s name (RequestOf l tr) n t p h named at k may =
+    direction_cut call pick Down i s n t p k.0
+    (unit_cut_follows call pick l tr i s n.ends.unit n t p h refl (record {
+      at = at;
+      way = k.0;
+      tci = k.1;
+      name = name_is_at t.names i name named ∙ k.2;
+      may = may_down l tr.place i s n.link p h.ways
+          (same_length n.link.packets t.names p.shared.packets h.packets) k.0 k.1 may;
+    }))
+packet_cut call pick i s name (ReplyTo l tr r) n t p h named at k may =
+    direction_cut call pick Up i s n t p k.0 (not_enabled_step n t p h)
+packet_cut call pick i s name Unasked n t p h named at k may =
+    direction_cut call pick Up i s n t p k.0 (not_enabled_step n t p h)
+
+sent_cut : (call : ℕ) (pick : Pick) (i : ℕ) (s : Sent) (b : Bool) (n : Nodes) (t : Told)
+    (p : Channel) → Rests n t p → slice_get n.link.packets i ≡ Some s
+    → may_come i (way_of s n.link.ways) (count n.link) ≡ b
+    → StepFollows (cut_of call pick (if_may_come b s) i n.ends) n t p
+sent_cut call pick i s false n t p h e may = not_enabled_step n t p h
+sent_cut call pick i s true n t p h e may =
+    let a = at_place n.link.packets t.names p.shared.packets i s h.packets e in
+    packet_cut call pick i s a.name a.packet n t p h a.name_is a.packet_is a.like may
+
+place_cut : (call : ℕ) (pick : Pick) (i : ℕ) (o : Option Sent) (n : Nodes) (t : Told) (p : Channel)
+    → Rests n t p → slice_get n.link.packets i ≡ o
+    → StepFollows (cut_of call pick (allowed_one i o n.link.ways (count n.link)) i n.ends) n t p
+place_cut call pick i None n t p h e = not_enabled_step n t p h
+place_cut call pick i (Some s) n t p h e = sent_cut call pick i s _ n t p h e refl
+
+cut_delivery_follows : (call : ℕ) (pick : Pick) (i : ℕ) (n : Nodes) (t : Told) (p : Channel)
+    → Rests n t p → StepFollows (cut_delivery call pick i n) n t p
+unfolding cut_delivery allowed
+cut_delivery_follows call pick i n t p h = place_cut call pick i _ n t p h refl
+
 -- ---- lines, and scripts
 
 -- what the laws ask of a line: a manager's numbers, and noise that is no frame
@@ -447,6 +525,15 @@ acted_follows (Set lane entity mask values) n t p h f =
     submit_follows lane entity (request.Set mask (filled 30 values)) n.ends.manager n t p h refl
 acted_follows (Delete lane entity) n t p h f = submit_follows lane entity request.Delete
     n.ends.manager n t p h refl
+acted_follows (Activate lane slot) n t p h f = submit_follows lane (image_entity slot)
+    (request.Activate 0) n.ends.manager n t p h refl
+acted_follows (Commit lane slot) n t p h f = submit_follows lane (image_entity slot) request.Commit
+    n.ends.manager n t p h refl
+acted_follows (Reboot lane) n t p h f = submit_follows lane ONU_G (request.Reboot 0)
+    n.ends.manager n t p h refl
+acted_follows (Image slot asked check image) n t p h f = image_follows slot asked check image
+    n.ends.manager n t p h refl
+acted_follows (CutIn number call pick) n t p h f = cut_delivery_follows call pick number n t p h
 acted_follows Resync n t p h f = resync_follows n.ends.manager n t p h refl
 acted_follows Audit n t p h f = audit_follows n.ends.manager n t p h refl
 acted_follows Check n t p h f = check_follows n.ends.manager n t p h refl

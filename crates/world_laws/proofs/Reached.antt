@@ -1,6 +1,6 @@
 -- What is known of the packets that may come next, from the channel of the moves that made up for a
 -- script.
-use Rattle.std.proofs.Common.{◌≡◌, ◌≢◌, ℕ, ◌-◌, ◌≤◌, Bool, true, false, Option, Some, None, slice_get, ◌⊎◌, inl, inr, refl, sym, ap, subst, ◌∙◌, arith}
+use Rattle.std.proofs.Common.{◌≡◌, ◌≢◌, ℕ, ◌-◌, ◌≤◌, Bool, true, false, Option, Some, None, slice_get, [], ◌⊎◌, inl, inr, refl, sym, ap, subst, ◌∙◌, arith}
 use Rattle.std.proofs.lemmas.Option.{same_Some}
 use Rattle.std.specs.List.{Contains}
 use Rattle.omci_types.specs.declared.Priority.{Priority}
@@ -12,8 +12,9 @@ use Rattle.lane_spec.specs.Command.{is_probe}
 use Rattle.lane_spec.specs.Lane.{Lane, Waiting}
 use Rattle.manager_spec.specs.Manager.{Manager, lane_in}
 use Rattle.unit_spec.specs.declared.Note.{Note}
+use Rattle.unit_spec.specs.declared.Did.{Did}
 use Rattle.unit_spec.specs.declared.Did.TheVariants as did
-use Rattle.unit_spec.specs.Onu.{Onu, Reception, drop_packet, unless_kept}
+use Rattle.unit_spec.specs.Onu.{Onu, Reception, unless_kept}
 use Rattle.history_spec.specs.History.{WasCarried, LastReply}
 use Rattle.moves_spec.specs.Channel.{Transaction, place_number, LinkPacket, RequestOf, ReplyTo, Unasked, KeptReply, Outstanding, LaneState, Channel, lane_view, first_channel}
 use Rattle.moves_spec.specs.Moves.{after_moves}
@@ -27,7 +28,7 @@ use Rattle.world_spec.specs.History.{Told, first_told, drawn_in, name_at}
 use Rattle.world_laws.specs.Facts.{AreReached, MayCome, MayBeCarriedOut, MayBeTaken, IsAwaited, KeepsTci}
 use Rattle.world_laws.proofs.Tcis.{same_number, some_tci}
 use Rattle.world_laws.proofs.Likeness.{tci_at, IsPacket, at_place, same_length, Awaits, IsOut, IsLaneOf, IsKept, lane_like, busy}
-use Rattle.world_laws.proofs.Unit.{IsAsked, reception_is}
+use Rattle.world_laws.proofs.Unit.{IsSilent, IsAsked, reception_is}
 use Rattle.world_laws.proofs.Turns.{Rests}
 use Rattle.world_laws.proofs.Arrivals.{name_is_at, lane_is, KeepsIt, KeepsOther, keeps, kept_for_is, asked_is, kept_like, has_other}
 use Rattle.world_laws.proofs.Lines.{may_down, may_up}
@@ -156,7 +157,7 @@ asked_differs : (l : Priority) (tci : ℕ) (what : Option Note) (r : Reception) 
     → KeepsIt k.frame.tci (kept_in l u.kept) ⊎ KeepsOther k.frame.tci (kept_in l u.kept)
     → (q : Reply) → kept_in l u.kept ≡ Some q → q.tci ≢ tci
 asked_differs l tci what r u lane does k (inl it) q is =
-    let keeps_it : r ≡ record { unit = u; did = did.Kept; reply = it.reply.packet } =
+    let keeps_it : r ≡ record { unit = u; did = did.Kept; reply = it.reply.packet; stored = [] } =
     k.is ∙ asked_is k.frame k.answer u
     ∙ ap (λ o. unless_kept o k.frame.tci k.answer u)
     (kept_for_is l k.frame.tci u.kept (ap priority_of k.same ∙ lane) ∙ it.answers) in
@@ -164,11 +165,15 @@ asked_differs l tci what r u lane does k (inl it) q is =
 asked_differs l tci what r u lane does k (inr other) q is =
     subst (λ x. q.tci ≢ x) k.same (other.differs q is)
 
+silent_differs : (d : Did) (what : Option Note) → d ≡ did.Carried what
+    → (d ≡ did.Dropped) ⊎ (d ≡ did.Held) → ⊥
+silent_differs d what e (inl f) = absurd (cc)
+silent_differs d what e (inr f) = absurd (cc)
+
 carried_differs : (l : Priority) (tci : ℕ) (what : Option Note) (r : Reception) (u : Onu)
     → priority_of tci ≡ l → r.did ≡ did.Carried what
-    → (r ≡ drop_packet u) ⊎ IsAsked tci u r → (q : Reply) → kept_in l u.kept ≡ Some q → q.tci ≢ tci
-carried_differs l tci what r u lane does (inl drops) =
-    absurd (let a : r.did ≡ did.Dropped = ap (λ (x : Reception). x.did) drops in cc)
+    → IsSilent u r ⊎ IsAsked tci u r → (q : Reply) → kept_in l u.kept ≡ Some q → q.tci ≢ tci
+carried_differs l tci what r u lane does (inl k) = absurd (silent_differs r.did what does k.did_is)
 carried_differs l tci what r u lane does (inr k) = asked_differs l tci what r u lane does k
     (keeps k.frame.tci (kept_in l u.kept))
 

@@ -11,7 +11,8 @@ use Rattle.moves_spec.specs.Channel.{Channel, first_channel}
 use Rattle.moves_spec.specs.Moves.{Move, after_moves}
 use Rattle.moves_laws.proofs.Numbers.{number_at_first}
 use Rattle.moves_laws.proofs.Runs.{runs_once, runs_answered}
-use Rattle.world_spec.specs.Ends.{factory_software}
+use Rattle.omci_types.specs.declared.Boot.TheVariants.{PowerUp}
+use Rattle.world_spec.specs.Ends.{factory_slots}
 use Rattle.world_spec.specs.Nodes.{Nodes, first_nodes, step, nodes_after}
 use Rattle.world_spec.specs.History.{Told, first_told, tell_all, told_after, history_of}
 use Rattle.world_laws.proofs.Likeness.{some_manager, some_unit, after_both}
@@ -61,7 +62,7 @@ first_rests h a b = record {
   lives_are = refl;
   drawn = refl;
   history = refl;
-  unit_is = some_unit (onu_started (factory_software h.factory)) None None
+  unit_is = some_unit (onu_started PowerUp h.room (factory_slots h.factory)) None None
       (record { is_low = tt; is_high = tt });
   manager_is = some_manager 0 0 (manager_started h.low h.high) _ _ (record {
     is_low = record { priority = refl; proved_is = refl; out = sym (number_at_first h.low a) };

@@ -55,11 +55,19 @@ one_deed (CommandDrawn Low) t = refl
 one_deed (CommandDrawn High) t = refl
 one_deed (UnitNoted life (note.Snapshot entities counter) before) t = refl
 one_deed (UnitNoted life (note.Alarms rows) before) t = refl
+one_deed (UnitNoted life (note.Sealed slot size check) before) t = refl
+one_deed (UnitNoted life (note.Committed slot) before) t = refl
+one_deed (UnitNoted life (note.Leaving boot) before) t = refl
 one_deed _ t = refl
 
 one_packet : (h : Happening) (t : Told) → (tell h t).packet ≡ packet_after h t.packet
 one_packet (CommandDrawn Low) t = refl
 one_packet (CommandDrawn High) t = refl
+one_packet (UnitNoted life (note.Snapshot entities counter) before) t = refl
+one_packet (UnitNoted life (note.Alarms rows) before) t = refl
+one_packet (UnitNoted life (note.Sealed slot size check) before) t = refl
+one_packet (UnitNoted life (note.Committed slot) before) t = refl
+one_packet (UnitNoted life (note.Leaving boot) before) t = refl
 one_packet _ t = refl
 
 -- what follows an event finds the deeds and the packet that the event left

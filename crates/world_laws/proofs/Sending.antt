@@ -1,5 +1,5 @@
 -- The manager draws a command and sends it, and sends it again.
-use Rattle.std.proofs.Common.{◌≡◌, ◌≢◌, ℕ, ◌+◌, ◌<◌, ◌^◌, Bool, true, false, List, [], ◌∷◌, ◌++◌, length, Option, Some, None, refl, sym, ap, subst, ◌∙◌, arith, length-append}
+use Rattle.std.proofs.Common.{◌≡◌, ◌≢◌, ℕ, ◌+◌, ◌<◌, ◌≤◌, ◌^◌, Bool, true, false, List, [], ◌∷◌, ◌++◌, length, Option, Some, None, refl, sym, ap, subst, ◌∙◌, arith, length-append}
 use Rattle.std.proofs.lemmas.List.{append-nil}
 use Rattle.std.proofs.lemmas.List.Elements.{All-head, All-tail, All-contains_itself}
 use Rattle.std.specs.Prelude.{map}
@@ -10,7 +10,10 @@ use Rattle.tci_spec.specs.Tci.{number_after, tci_of, packet_tci}
 use Rattle.message_spec.specs.Reading.{plain}
 use Rattle.link_spec.specs.declared.Direction.TheVariants.{Down}
 use Rattle.link_spec.specs.Link.{Link, sent_on}
-use Rattle.lane_spec.specs.Command.{Command, command_frame, command_packets, is_probe}
+use Rattle.omci_types.specs.declared.EntityId.{EntityId}
+use Rattle.message_spec.specs.declared.Message.TheVariants.{Asked}
+use Rattle.message_spec.specs.declared.Request.TheVariants as request
+use Rattle.lane_spec.specs.Command.{Command, command_frame, section_packet, with_sections, command_packets, is_probe}
 use Rattle.lane_spec.specs.Lane.{Lane, next_tci, with_command}
 use Rattle.manager_spec.specs.Manager.{Manager, lane_in, with_lane, command_sent}
 use Rattle.unit_spec.specs.Onu.{Onu}
@@ -34,15 +37,40 @@ frame_tci : (tci : ℕ) (c : Command) → (command_frame tci c).tci ≡ tci
 unfolding command_frame plain
 frame_tci tci c = refl
 
+section_tci : (tci : ℕ) (one : EntityId) (number : ℕ) (bytes : List ℕ) → tci < 2 ^ 16
+    → packet_tci (section_packet tci one number bytes) ≡ tci
+unfolding section_packet plain
+section_tci tci one number bytes fits =
+    tci_spelled (plain (Asked tci one (request.Section number bytes false))) fits
+
+sections_tci : (tci : ℕ) (one : EntityId) (number : ℕ) (sections packets : List (List ℕ))
+    → tci < 2 ^ 16 → HaveTci tci packets
+    → HaveTci tci (with_sections tci one number sections packets)
+sections_tci tci one number [] packets fits h = h
+sections_tci tci one number (bytes ∷ rest) packets fits h = (
+  section_tci tci one number bytes fits,
+  sections_tci tci one (number + 1) rest packets fits h,
+)
+
 pub packets_tci : (l : Priority) (place : ℕ) (c : Command) → HaveTci (tci_at l place)
     (command_packets (tci_at l place) c)
 packets_tci l place c =
-    let same = frame_tci (tci_at l place) c in (
+    let same = frame_tci (tci_at l place) c in
+    let fits = tci_fits l (place_number place) (place_is_number place) in
+    sections_tci (tci_at l place) c.entity 0 c.earlier _ fits (
       tci_spelled (command_frame (tci_at l place) c)
-          (subst (λ n. n < 2 ^ 16) (sym same)
-          (tci_fits l (place_number place) (place_is_number place))) ∙ same,
+          (subst (λ n. n < 2 ^ 16) (sym same) fits) ∙ same,
       tt,
     )
+
+some_sent : (tci : ℕ) (one : EntityId) (number : ℕ) (sections packets : List (List ℕ))
+    → 1 ≤ length packets → 1 ≤ length (with_sections tci one number sections packets)
+some_sent tci one number [] packets h = h
+some_sent tci one number (bytes ∷ rest) packets h = omega arith
+
+-- a command sends a packet each time
+pub sends_some : (tci : ℕ) (c : Command) → 1 ≤ length (command_packets tci c)
+sends_some tci c = some_sent tci c.entity 0 c.earlier _ (omega arith)
 
 -- they go onto the link
 pub sends_like : (l : Priority) (tr : Transaction) (ps : List (List ℕ)) (link : Link) (lives : ℕ)
@@ -375,7 +403,7 @@ drawn_happens asks l c link lives unit m t p h none allowed = (
         at = refl;
         probe = refl;
         packets = refl;
-        sent = omega arith;
+        sent = omega (arith, sends_some (next_tci x) c);
         name = last;
       };
     })

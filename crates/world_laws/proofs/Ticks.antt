@@ -22,7 +22,7 @@ use Rattle.world_spec.specs.History.{Told, drawn_in, tell_all}
 use Rattle.world_laws.proofs.Likeness.{tci_at, Awaits, IsOut, IsLaneOf, IsManager, Like, lane_like, Waits, busy, Follows, same_view, same_manager, like_unmanaged, like_managed, like_one_lane, one_lane, like_same_lanes}
 use Rattle.world_laws.proofs.Keeping.{give_up_keeps}
 use Rattle.world_laws.proofs.Following.{OutcomeFollows}
-use Rattle.world_laws.proofs.Sending.{HaveTci, packets_tci, lasts_stay, sent_view, sent_like, sent_lane}
+use Rattle.world_laws.proofs.Sending.{HaveTci, packets_tci, sends_some, lasts_stay, sent_view, sent_like, sent_lane}
 
 -- ---- the outstanding command is sent again
 
@@ -80,8 +80,8 @@ repeat_follows l w link lives unit m t p h e hs is =
         (subst (λ n. HaveTci (tci_at l o.transaction.place) (command_packets n w.command))
         (sym a.tci) (packets_tci l o.transaction.place w.command))
 
-    one : 1 ≡ length o.transaction.packets
-    one = ap length a.packets
+    one : 1 ≤ length o.transaction.packets
+    one = subst (λ xs. 1 ≤ length xs) a.packets (sends_some w.tci w.command)
 
     unmanaged : Like (link_read goes link) lives unit None (tell_all goes t)
         (with_lane_view l (sent_view l o v) p)

@@ -1,5 +1,5 @@
 -- Steps of the two ends between their rests: submissions and seconds.
-use Rattle.std.proofs.Common.{◌≡◌, ◌++◌, Bool, true, false, cond, List, [], ◌∷◌, Option, Some, None, is_none, refl, sym, ap, subst, ◌∙◌}
+use Rattle.std.proofs.Common.{◌≡◌, ℕ, ◌+◌, ◌++◌, Bool, true, false, cond, List, [], ◌∷◌, Option, Some, None, is_none, refl, sym, ap, subst, ◌∙◌}
 use Rattle.std.proofs.lemmas.Bool.{and_parts}
 use Rattle.std.specs.Prelude.{map}
 use Rattle.omci_types.specs.declared.EntityId.{EntityId}
@@ -7,26 +7,30 @@ use Rattle.omci_types.specs.declared.Priority.{Priority}
 use Rattle.omci_types.specs.declared.Priority.TheVariants.{Low, High}
 use Rattle.message_spec.specs.declared.Request.{Request}
 use Rattle.message_spec.specs.declared.Request.TheVariants as request
-use Rattle.lane_spec.specs.Command.{probe_command, check_command, ask, job_command, sync_entity}
+use Rattle.lane_spec.specs.Command.{probe_command, check_command, ask, job_command, sync_entity, is_probe}
 use Rattle.lane_spec.specs.Lane.{Lane, Waiting, lane_tick}
 use Rattle.lane_spec.specs.declared.LaneTick.{LaneTick}
 use Rattle.lane_spec.specs.declared.LaneTick.TheVariants.{Quiet, Repeat, GaveUp}
 use Rattle.manager_spec.specs.declared.Refusal.{Refusal}
 use Rattle.manager_spec.specs.declared.Refusal.TheVariants.{Unproven}
-use Rattle.manager_spec.specs.Manager.{Probing, AskingAlarms, Manager, Outcome, and_then, lane_in, command_sent}
+use Rattle.omci_types.specs.declared.Boot.{Boot}
+use Rattle.slot_spec.specs.Slots.{SlotPair}
+use Rattle.manager_spec.specs.Upgrade.{start_command}
+use Rattle.manager_spec.specs.Manager.{Order, Stage, Probing, AskingAlarms, StartingImage, EndingImage, DelayingEnd, Manager, Outcome, and_then, sends_nothing, lane_in, command_sent}
 use Rattle.manager_spec.specs.Resync.{with_job}
-use Rattle.manager_spec.specs.Jobs.{Wish, is_free, send_wish, wish_in, job_goes_on}
-use Rattle.manager_spec.specs.Submitting.{occupied, occupied_by, unproven, out_of_step, needs_copy, job_running, job_in_the_way, other_change, second_change, first_refusal, unless_refused, probe_refusal, after_probe, submit_refusal, leaves_copy, leave_if, after_submit, check_refusal, after_check, resync_refusal, after_resync, audit_refusal, audit_asked, after_audit}
-use Rattle.manager_spec.specs.Steps.{lane_ticked, tick_lane, after_tick}
-use Rattle.unit_spec.specs.Onu.{Onu, onu_ticked}
+use Rattle.manager_spec.specs.Jobs.{Wish, is_free, send_wish, wish_in, job_goes_on, resumed_by, job_resumes}
+use Rattle.manager_spec.specs.Submitting.{occupied, occupied_by, unproven, out_of_step, needs_copy, job_running, job_in_the_way, other_change, second_change, first_refusal, unless_refused, probe_refusal, after_probe, submit_refusal, leaves_copy, leave_if, after_submit, check_refusal, after_check, resync_refusal, after_resync, audit_refusal, audit_asked, after_audit, image_refusal, check_given, image_asked, after_image}
+use Rattle.manager_spec.specs.Steps.{lane_ticked, tick_lane, tick_lanes, after_tick}
+use Rattle.unit_spec.specs.Onu.{Onu, onu_started, onu_ticked}
+use Rattle.moves_spec.specs.Moves.{UnitStarts}
 use Rattle.link_spec.specs.Link.{Link}
 use Rattle.moves_spec.specs.Channel.{Channel}
 use Rattle.world_spec.specs.Happenings.{ReplyTaken}
-use Rattle.world_spec.specs.Ends.{Ends, Step, still, not_enabled, then_step, manager_did, submission_step, submission, manager_ticks, unit_ticks, second}
+use Rattle.world_spec.specs.Ends.{Ends, Step, still, not_enabled, then_step, stage_in, manager_did, submission_step, submission, manager_ticks, unit_starts, restarts, unit_ticks, second}
 use Rattle.world_spec.specs.Nodes.{Nodes}
 use Rattle.world_spec.specs.History.{Told}
-use Rattle.world_laws.proofs.Likeness.{Like, SameLanes, like_same_kept}
-use Rattle.world_laws.proofs.Keeping.{leave_if_keeps}
+use Rattle.world_laws.proofs.Likeness.{Like, same_length, some_unit, SameLanes, like_same_kept}
+use Rattle.world_laws.proofs.Keeping.{leave_if_keeps, resume_takes}
 use Rattle.world_laws.proofs.Following.{Happens, then_happens, OutcomeFollows, sends_none, from_same, both_follow, outcome_happens}
 use Rattle.world_laws.proofs.Sending.{command_follows}
 use Rattle.world_laws.proofs.Ticks.{tick_lane_follows}
@@ -53,7 +57,7 @@ pub own_follows : (o : Outcome) (m : Manager) (n : Nodes) (t : Told) (p : Channe
     → n.ends.manager ≡ Some m → o.taken ≡ [] → OutcomeFollows m o
     → StepFollows (manager_did o n.ends) n t p
 own_follows o m n t p h e none f =
-    outcome_happens [] m o n.link n.ends.lives n.ends.unit t p
+    outcome_happens [] (stage_in n.ends.manager) m o n.link n.ends.lives n.ends.unit t p
     (subst
     (λ ls. Happens (map ReplyTaken ls) n.link n.ends.lives n.ends.unit (Some m) t p) (sym none)
     ([], subst (λ x. Like n.link n.ends.lives n.ends.unit x t p) e h)) f
@@ -246,6 +250,43 @@ pub audit_follows : (o : Option Manager) (n : Nodes) (t : Told) (p : Channel) �
 audit_follows None n t p h e = not_enabled_step n t p h
 audit_follows (Some m) n t p h e = audit_goes m n t p h e
 
+-- a download is asked for
+image_goes : (slot asked : ℕ) (check : Option ℕ) (image : List ℕ) (m : Manager) (n : Nodes)
+    (t : Told) (p : Channel) → Rests n t p → n.ends.manager ≡ Some m
+    → StepFollows (submission_step (after_image slot asked check image m) n.ends) n t p
+unfolding after_image
+image_goes slot asked check image m n t p h e =
+    submission_by (image_refusal m) o m n t p h
+    (λ none. own_follows o m n t p h e refl (goes (first_none (unproven Low m) rest none)))
+  where
+    order : Order
+    order = record { slot = slot; check = check_given check image }
+
+    o : Outcome
+    o = image_asked order asked image m
+
+    more : List (Option Refusal)
+    more = job_running m ∷ other_change Low m ∷ []
+
+    rest : List (Option Refusal)
+    rest = occupied Low m ∷ more
+
+    starting : Manager
+    starting = with_job (Some (StartingImage order asked image)) m
+
+    goes : (unproven Low m ≡ None) × (first_refusal rest ≡ None) → OutcomeFollows m o
+    goes k = from_same m starting o (record { low = refl; high = refl })
+        (command_follows false Low (start_command order asked image) starting
+        (unoccupied m.low.outstanding (first_none (occupied Low m) more k.1).0)
+        (proved_any m.low.proved false (is_proved m.low.proved Low k.0)))
+
+pub image_follows : (slot asked : ℕ) (check : Option ℕ) (image : List ℕ) (o : Option Manager)
+    (n : Nodes) (t : Told) (p : Channel) → Rests n t p → n.ends.manager ≡ o
+    → StepFollows (submission (after_image slot asked check image) o n.ends) n t p
+image_follows slot asked check image None n t p h e = not_enabled_step n t p h
+image_follows slot asked check image (Some m) n t p h e =
+    image_goes slot asked check image m n t p h e
+
 -- ---- the job goes on
 
 none_is : (o : Option Waiting) → is_none o ≡ true → o ≡ None
@@ -267,8 +308,9 @@ wish_follows false (Some w) m e =
 wish_follows true (Some w) m e =
     from_same m (with_job (Some w.stage) m) (send_wish true (Some w) m)
     (record { low = refl; high = refl })
-    (command_follows w.asks Low (job_command sync_entity w.request) (with_job (Some w.stage) m)
-    (free_is m.low e).0 (proved_any m.low.proved false (free_is m.low e).1))
+    (command_follows w.asks Low w.command (with_job (Some w.stage) m)
+    (free_is m.low e).0
+    (proved_any m.low.proved (is_probe w.command.purpose) (free_is m.low e).1))
 
 -- what the job sends next
 pub job_follows : (m : Manager) → OutcomeFollows m (job_goes_on m)
@@ -292,17 +334,32 @@ both_take : (a : Outcome) (f : Manager → Outcome) → a.taken ≡ [] → (f a.
     → (and_then a f).taken ≡ []
 both_take a f e g = ap (λ ls. ls ++ (f a.manager).taken) e ∙ g
 
+-- a job that waited for the second
+resume_follows : (job : Option Stage) (m : Manager) → OutcomeFollows m (resumed_by job m)
+resume_follows (Some (DelayingEnd order image busy)) m =
+    from_same m (with_job (Some (EndingImage order image busy)) m)
+    (resumed_by (Some (DelayingEnd order image busy)) m)
+    (record { low = refl; high = refl })
+    (job_follows (with_job (Some (EndingImage order image busy)) m))
+resume_follows _ m = sends_none m (sends_nothing m) (record { low = refl; high = refl }) refl
+
 tick_follows : (m : Manager) (n : Nodes) (t : Told) (p : Channel) → Rests n t p → n.ends.manager
     ≡ Some m → StepFollows (manager_did (after_tick m) n.ends) n t p
 unfolding after_tick
 tick_follows m n t p h e =
-    own_follows (and_then high (tick_lane Low)) m n t p h e
+    own_follows (and_then lanes job_resumes) m n t p h e
+    (both_take lanes job_resumes
     (both_take high (tick_lane Low) (tick_takes High m) (tick_takes Low high.manager))
+    (resume_takes lanes.manager))
+    (both_follow m lanes job_resumes
     (both_follow m high (tick_lane Low) (tick_lane_follows High m)
-    (tick_lane_follows Low high.manager))
+    (tick_lane_follows Low high.manager)) (resume_follows lanes.manager.job lanes.manager))
   where
     high : Outcome
     high = tick_lane High m
+
+    lanes : Outcome
+    lanes = tick_lanes m
 
 manager_second : (o : Option Manager) (n : Nodes) (t : Told) (p : Channel) → Rests n t p
     → n.ends.manager ≡ o → StepFollows (manager_ticks o n.ends) n t p
@@ -313,17 +370,47 @@ kept_over : (u : Onu) → (onu_ticked u).kept ≡ u.kept
 unfolding onu_ticked
 kept_over u = refl
 
--- the unit's second is no move
+-- a unit that starts is a move, whatever was on before
+pub unit_starts_follow : (boot : Boot) (slots : SlotPair) (e : Ends) (link : Link) (t : Told)
+    (p : Channel) → Like link e.lives e.unit e.manager t p
+    → Happens (unit_starts boot slots e).happenings link (unit_starts boot slots e).ends.lives
+    (unit_starts boot slots e).ends.unit (unit_starts boot slots e).ends.manager t p
+unfolding onu_started
+unit_starts_follow boot slots e link t p h =
+    let k = same_length link.packets t.names p.shared.packets h.packets in (
+      UnitStarts ∷ [],
+      record {
+        packets = h.packets;
+        ways = record { down_low = k; down_high = k; up_low = k; up_high = k };
+        lives_are = ap (λ x. x + 1) h.lives_are;
+        drawn = h.drawn;
+        history = h.history;
+        unit_is = some_unit (onu_started boot e.room slots) None None
+            (record { is_low = tt; is_high = tt });
+        manager_is = λ m f.
+            let q = h.manager_is m f in record { is_low = q.is_low; is_high = q.is_high };
+      },
+    )
+
+-- the unit's second is no move, but for a unit that leaves
+restart_follows : (leaving : Option Boot) (u : Onu) (e : Ends) (link : Link) (t : Told)
+    (p : Channel) → Like link e.lives (Some u) e.manager t p
+    → Like link e.lives e.unit e.manager t p
+    → Happens (restarts leaving u e).happenings link (restarts leaving u e).ends.lives
+    (restarts leaving u e).ends.unit (restarts leaving u e).ends.manager t p
+restart_follows None u e link t p h k = (
+  [],
+  like_same_kept link e.lives u (onu_ticked u) e.manager t p (kept_over u) h,
+)
+restart_follows (Some boot) u e link t p h k = unit_starts_follow boot u.store.slots e link t p k
+
 unit_second : (o : Option Onu) (e : Ends) (link : Link) (t : Told) (p : Channel) → e.unit ≡ o
     → Like link e.lives e.unit e.manager t p
     → Happens (unit_ticks o e).happenings link (unit_ticks o e).ends.lives
     (unit_ticks o e).ends.unit (unit_ticks o e).ends.manager t p
 unit_second None e link t p f h = ([], h)
-unit_second (Some u) e link t p f h = (
-  [],
-  like_same_kept link e.lives u (onu_ticked u) e.manager t p (kept_over u)
-      (subst (λ x. Like link e.lives x e.manager t p) f h),
-)
+unit_second (Some u) e link t p f h =
+    restart_follows u.leaving u e link t p (subst (λ x. Like link e.lives x e.manager t p) f h) h
 
 second_by : (s : Step) (n : Nodes) (t : Told) (p : Channel) → StepFollows s n t p
     → StepFollows (then_step s (λ after. unit_ticks after.unit after)) n t p

@@ -24,6 +24,7 @@ use Rattle.manager_spec.specs.Resync.{gather_on}
 use Rattle.manager_spec.specs.Jobs.{job_goes_on}
 use Rattle.manager_spec.specs.Submitting.{after_probe, after_submit, after_check, after_resync}
 use Rattle.manager_spec.specs.Steps.{response_of, after_packet, after_tick}
+use Rattle.slot_spec.specs.Layout.{version}
 use Rattle.link_spec.specs.Link.{allowed, ways_past, fresh}
 use Rattle.world_spec.specs.Ends.{arrives, noise, second}
 use Rattle.world_spec.specs.Nodes.{delivery, flow, acted, step}
@@ -44,7 +45,7 @@ pub record CopyTraces : Type 0 where
   pub refusals_in_order-is : trace refusals_in_order ≡ refusals_in_order_trace
 
 pub copy_traces : CopyTraces
-unfolding resynchronised synced_trace created_and_checked created_and_checked_trace
+unfolding version resynchronised synced_trace created_and_checked created_and_checked_trace
     counter_goes_round counter_goes_round_trace values_too_wide values_too_wide_trace set_refused
     set_refused_trace deleted_absent deleted_absent_trace change_in_the_way
     change_in_the_way_trace restarted_meanwhile restarted_meanwhile_trace refusals_in_order
@@ -86,7 +87,7 @@ pub record CopyHistories : Type 0 where
       ≡ 5 ∷ 5 ∷ 4 ∷ 4 ∷ 3 ∷ 3 ∷ 2 ∷ 2 ∷ 1 ∷ 0 ∷ []
 
 pub copy_histories : CopyHistories
-unfolding created_and_checked restarted_meanwhile crc dividend divide without_first generator
+unfolding version created_and_checked restarted_meanwhile crc dividend divide without_first generator
     add_to_front inverted inverted_bit bits_of number_of message_bits checked_bytes spelling
     number_at frame_of trailer_at given_check computed_check fault_of frame_unless packet_frame
     padding put plain message_of type_numbered kind_of class_table class_row known_mask

@@ -1,6 +1,6 @@
 -- What may happen next to the nodes that the lines of a script have led to. Commands are named as
 -- in the history.
-use Rattle.std.specs.Prelude.{ℕ, ◌≡◌, List, Option, Some}
+use Rattle.std.specs.Prelude.{ℕ, ◌≡◌, false, List, Option, Some}
 use Rattle.std.specs.List.{All, Contains}
 use Rattle.omci_types.specs.declared.Priority.{Priority}
 use Rattle.tci_spec.specs.Tci.{IsNumber, packet_tci}
@@ -40,7 +40,7 @@ pub record MayBeCarriedOut (lane : Priority) (n : Nodes) (number : ℕ) (s : Sen
   pub comes : MayCome Down lane n number s
   pub on : n.ends.unit ≡ Some u
   pub note : Option Note
-  pub does : (onu_received s.bytes u).did ≡ did.Carried note
+  pub does : (onu_received false s.bytes u).did ≡ did.Carried note
 
 -- and the manager is on, and waits for its TCI
 pub record MayBeTaken (lane : Priority) (n : Nodes) (number : ℕ) (s : Sent) (m : Manager)

@@ -8,11 +8,12 @@ use Rattle.upload_spec.specs.Pieces.{Copy}
 use Rattle.alarm_spec.specs.Alarms.{Alarms}
 use Rattle.unit_spec.specs.declared.Note.{Note}
 use Rattle.unit_spec.specs.declared.Note.TheVariants as note
+use Rattle.store_spec.specs.History.{StoreEntry}
 use Rattle.unit_spec.specs.Onu.{Onu}
 use Rattle.manager_spec.specs.declared.Report.TheVariants as report
 use Rattle.script_spec.specs.Script.{Header, Script, Action}
-use Rattle.history_spec.specs.History.{Entry, CarriedOut, TookReply, TookSnapshot, Synced, TookAlarms, Audited, Remarked}
-use Rattle.world_spec.specs.Happenings.{Happening, UnitStarted, PacketCame, UnitCarried, UnitNoted, ReplyTaken, CopyTold, TableTold, Reported, next_after}
+use Rattle.history_spec.specs.History.{Entry, CarriedOut, TookReply, TookSnapshot, Synced, TookAlarms, Audited, Stored, Downloaded, Remarked}
+use Rattle.world_spec.specs.Happenings.{Happening, UnitStarted, PacketCame, UnitCarried, UnitNoted, ImageStored, ReplyTaken, CopyTold, TableTold, ImageTold, Reported, next_after}
 use Rattle.world_spec.specs.Ends.{factory_software}
 use Rattle.world_spec.specs.Nodes.{Nodes, step, first_nodes}
 use Rattle.world_spec.specs.Trace.{happening_text}
@@ -61,6 +62,8 @@ pub data Deed : Type 0 where
   Gave : (copy : Copy) → Deed
   PutAlarmsBy : (life : ℕ) (alarms : Alarms) → Deed
   GaveTable : (table : Alarms) → Deed
+  StoredIt : (entry : StoreEntry) → Deed
+  GaveImage : (slot : ℕ) (image : List ℕ) → Deed
 
 abbrev pub deed_of : Entry → Deed
 deed_of (CarriedOut life command reply before) = Carried life reply before
@@ -69,16 +72,23 @@ deed_of (Remarked (TookSnapshot life command database)) = PutBy life database
 deed_of (Remarked (Synced command copy)) = Gave copy
 deed_of (Remarked (TookAlarms life command alarms)) = PutAlarmsBy life alarms
 deed_of (Remarked (Audited command table notices)) = GaveTable table
+deed_of (Remarked (Stored entry)) = StoredIt entry
+deed_of (Remarked (Downloaded slot image)) = GaveImage slot image
 
--- what a unit put by, by what is told of it
-abbrev pub put_by : ℕ → Note → Onu → Deed
-put_by life (note.Snapshot entities counter) before = PutBy life before.database
-put_by life (note.Alarms rows) before = PutAlarmsBy life before.log.alarms
+-- what a unit put by, if anything, by what is told of it
+abbrev pub put_by : ℕ → Note → Onu → List Deed → List Deed
+put_by life (note.Snapshot entities counter) before older = PutBy life before.database ∷ older
+put_by life (note.Alarms rows) before older = PutAlarmsBy life before.log.alarms ∷ older
+put_by life (note.Sealed slot size check) before older = older
+put_by life (note.Committed slot) before older = older
+put_by life (note.Leaving boot) before older = older
 
 -- the deeds after what happened, newest first, where that packet came last
 abbrev pub with_happening : Happening → List ℕ → List Deed → List Deed
 with_happening (UnitCarried life reply before) packet older = Carried life reply before ∷ older
-with_happening (UnitNoted life note before) packet older = put_by life note before ∷ older
+with_happening (UnitNoted life note before) packet older = put_by life note before older
+with_happening (ImageStored entry) packet older = StoredIt entry ∷ older
+with_happening (ImageTold slot image) packet older = GaveImage slot image ∷ older
 with_happening (ReplyTaken lane) packet older = Took packet ∷ older
 with_happening (CopyTold copy) packet older = Gave copy ∷ older
 with_happening (TableTold table) packet older = GaveTable table ∷ older

@@ -6,6 +6,7 @@ use Rattle.omci_types.specs.declared.Software.{Software}
 use Rattle.mib_spec.specs.Database.{Database}
 use Rattle.upload_spec.specs.Pieces.{Copy}
 use Rattle.alarm_spec.specs.Alarms.{Alarm, Alarms}
+use Rattle.store_spec.specs.History.{StoreEntry}
 use Rattle.unit_spec.specs.Onu.{Onu}
 use Rattle.unit_spec.specs.declared.Note.{Note}
 use Rattle.manager_spec.specs.declared.Refusal.{Refusal}
@@ -34,6 +35,12 @@ pub data Happening : Type 0 where
   -- the unit gives the kept reply to what came, or does nothing with it
   UnitKept : Happening
   UnitDropped : Happening
+  -- the unit holds a section that isn't its window's last
+  UnitHeld : Happening
+  -- the unit's store of software images has this for the history
+  ImageStored : (entry : StoreEntry) → Happening
+  -- the power of the unit goes while a packet comes
+  PowerCut : Happening
   -- the manager draws the next command of a lane
   CommandDrawn : (lane : Priority) → Happening
   -- by the command that the lane drew last the manager's job asks for a snapshot
@@ -45,6 +52,8 @@ pub data Happening : Type 0 where
   -- the copy that a resynchronisation has given, and the table that an audit has given
   CopyTold : (copy : Copy) → Happening
   TableTold : (table : Alarms) → Happening
+  -- a download of this image into that slot has ended
+  ImageTold : (slot : ℕ) (image : List ℕ) → Happening
   -- the manager reports something, or refuses a submission
   Reported : (report : Report) → Happening
   Refused : (refusal : Refusal) → Happening

@@ -8,8 +8,8 @@ use Rattle.unit_spec.specs.declared.Note.{Note}
 use Rattle.unit_spec.specs.declared.Note.TheVariants as note
 use Rattle.unit_spec.specs.Onu.{Onu}
 use Rattle.alarm_spec.specs.Alarms.{Alarm}
-use Rattle.history_spec.specs.History.{Entry, CarriedOut, TookReply, Remark, Remarked, TookSnapshot, Synced, TookAlarms, Audited}
-use Rattle.world_spec.specs.Happenings.{Happening, Whose, OfLane, OfArrival, OfNobody, PacketCame, PacketSent, UnitCarried, UnitNoted, CommandDrawn, JobAsked, ReplyTaken, NoticeTaken, CopyTold, TableTold}
+use Rattle.history_spec.specs.History.{Entry, CarriedOut, TookReply, Remark, Remarked, TookSnapshot, Synced, TookAlarms, Audited, Stored, Downloaded}
+use Rattle.world_spec.specs.Happenings.{Happening, Whose, OfLane, OfArrival, OfNobody, PacketCame, PacketSent, UnitCarried, UnitNoted, ImageStored, CommandDrawn, JobAsked, ReplyTaken, NoticeTaken, CopyTold, TableTold, ImageTold}
 use Rattle.world_spec.specs.Nodes.{Nodes, step, first_nodes}
 
 -- How many commands were drawn, the command of each packet on the link (a reply has its request's), the command that each
@@ -65,9 +65,16 @@ abbrev pub with_entry : Entry → Told → Told
 with_entry entry t = record t { history = entry ∷ t.history }
 
 -- what is remarked of a request that was carried out
-abbrev pub remark_of : ℕ → ℕ → Note → Onu → Remark
-remark_of life command (note.Snapshot entities counter) before = TookSnapshot life command before.database
-remark_of life command (note.Alarms rows) before = TookAlarms life command before.log.alarms
+abbrev pub remark_of : ℕ → ℕ → Note → Onu → Option Remark
+remark_of life command (note.Snapshot entities counter) before = Some (TookSnapshot life command before.database)
+remark_of life command (note.Alarms rows) before = Some (TookAlarms life command before.log.alarms)
+remark_of life command (note.Sealed slot size check) before = None
+remark_of life command (note.Committed slot) before = None
+remark_of life command (note.Leaving boot) before = None
+
+abbrev pub with_remark : Option Remark → Told → Told
+with_remark None t = t
+with_remark (Some remark) t = with_entry (Remarked remark) t
 
 abbrev pub notices_if : Bool → List Alarm → List Alarm
 notices_if true notices = []
@@ -81,13 +88,15 @@ abbrev pub tell : Happening → Told → Told
 tell (PacketCame number packet) t = record t { came = name_at number t.names; packet = packet.bytes }
 tell (PacketSent whose packet) t = record t { names = t.names ++ name_of whose t ∷ [] }
 tell (UnitCarried life reply before) t = with_entry (CarriedOut life t.came reply before) t
-tell (UnitNoted life note before) t = with_entry (Remarked (remark_of life t.came note before)) t
+tell (UnitNoted life note before) t = with_remark (remark_of life t.came note before) t
+tell (ImageStored entry) t = with_entry (Remarked (Stored entry)) t
 tell (CommandDrawn lane) t = draws_in lane t
 tell (JobAsked lane) t = record t { asking = drawn_in lane t }
 tell (ReplyTaken lane) t = with_entry (TookReply (drawn_in lane t) t.packet) (answers_in lane t)
 tell (NoticeTaken notice) t = record t { notices = t.notices ++ notice ∷ [] }
 tell (CopyTold copy) t = with_entry (Remarked (Synced t.asking copy)) t
 tell (TableTold table) t = with_entry (Remarked (Audited t.asking table t.notices)) t
+tell (ImageTold slot image) t = with_entry (Remarked (Downloaded slot image)) t
 tell _ t = t
 
 abbrev pub tell_all : List Happening → Told → Told

@@ -2,15 +2,18 @@
 use Rattle.std.specs.Prelude.{ℕ, zero, suc, ◌+◌, List, [], ◌∷◌, ◌++◌, Option, Some, None, is_some}
 use Rattle.message_spec.specs.declared.Request.TheVariants as request
 use Rattle.frame_spec.specs.Widths.{filled}
-use Rattle.script_spec.specs.Script.{Header, Action, Probe, Reset, Get, Create, Set, Delete, Resync, Audit, Check, Deliver, Flow, NoiseUnit, NoiseOlt, Tick, Sense, Alarm, CutUnit, CutOlt, StartUnit, StartOlt}
+use Rattle.script_spec.specs.Script.{Header, Action, Probe, Reset, Get, Create, Set, Delete, Activate, Commit, Reboot, Resync, Audit, Check, Image, Deliver, Flow, CutIn, NoiseUnit, NoiseOlt, Tick, Sense, Alarm, CutUnit, CutOlt, StartUnit, StartOlt}
 use Rattle.link_spec.specs.declared.Direction.TheVariants.{Down, Up}
 use Rattle.link_spec.specs.Link.{Sent, Link, empty_link, allowed, fresh}
 use Rattle.lane_spec.specs.Command.{sync_entity}
 use Rattle.alarm_spec.specs.declared.TheConstants.{BITMAP_BYTES}
 use Rattle.unit_spec.specs.Noticing.{onu_sensed, onu_alarmed}
-use Rattle.manager_spec.specs.Submitting.{after_probe, after_submit, after_check, after_resync, after_audit}
+use Rattle.slot_spec.specs.declared.Pick.{Pick}
+use Rattle.unit_spec.specs.declared.TheConstants.{ONU_G}
+use Rattle.manager_spec.specs.Upgrade.{image_entity}
+use Rattle.manager_spec.specs.Submitting.{after_probe, after_submit, after_check, after_resync, after_audit, after_image}
 use Rattle.world_spec.specs.Happenings.{Happening, link_read}
-use Rattle.world_spec.specs.Ends.{Ends, Step, first_ends, still, not_enabled, submission, arrives, noise, second, unit_notices, cut_unit, cut_manager, start_unit, start_manager}
+use Rattle.world_spec.specs.Ends.{Ends, Step, first_ends, still, not_enabled, submission, arrives, cut_in, noise, second, unit_notices, cut_unit, cut_manager, start_unit, start_manager}
 
 pub record Nodes : Type 0 where
   pub ends : Ends
@@ -34,6 +37,14 @@ delivery_of (Some s) number e = arrives number s e
 -- a delivery of that packet, which isn't enabled where it may not come or its end is off
 unfoldable pub delivery : ℕ → Nodes → Step
 delivery number n = delivery_of (allowed number n.link) number n.ends
+
+abbrev pub cut_of : (call : ℕ) → Pick → Option Sent → ℕ → Ends → Step
+cut_of call pick None number e = not_enabled e
+cut_of call pick (Some s) number e = cut_in call pick number s e
+
+-- a delivery of that packet, amid which the power of the unit goes
+unfoldable pub cut_delivery : (call : ℕ) → Pick → ℕ → Nodes → Step
+cut_delivery call pick number n = cut_of call pick (allowed number n.link) number n.ends
 
 -- the nodes after a step of their ends
 abbrev pub nodes_after_step : Step → Nodes → Nodes
@@ -70,11 +81,20 @@ acted (Create lane entity values) n =
 acted (Set lane entity mask values) n =
     submission (after_submit lane entity (request.Set mask (filled 30 values))) n.ends.manager n.ends
 acted (Delete lane entity) n = submission (after_submit lane entity request.Delete) n.ends.manager n.ends
+acted (Activate lane slot) n =
+    submission (after_submit lane (image_entity slot) (request.Activate 0)) n.ends.manager n.ends
+acted (Commit lane slot) n =
+    submission (after_submit lane (image_entity slot) request.Commit) n.ends.manager n.ends
+acted (Reboot lane) n =
+    submission (after_submit lane ONU_G (request.Reboot 0)) n.ends.manager n.ends
 acted Resync n = submission after_resync n.ends.manager n.ends
 acted Audit n = submission after_audit n.ends.manager n.ends
 acted Check n = submission after_check n.ends.manager n.ends
+acted (Image slot asked check image) n =
+    submission (after_image slot asked check image) n.ends.manager n.ends
 acted (Deliver number) n = delivery number n
 acted (Flow times) n = flow times n
+acted (CutIn number call pick) n = cut_delivery call pick number n
 acted (NoiseUnit bytes) n = noise Down bytes n.ends
 acted (NoiseOlt bytes) n = noise Up bytes n.ends
 acted Tick n = second n.ends

@@ -6,6 +6,8 @@ use Rattle.std.specs.Fmt.{decimal}
 use Rattle.hex.specs.Hex.{encode_lower}
 use Rattle.omci_types.specs.declared.EntityId.{EntityId}
 use Rattle.omci_types.specs.declared.SlotView.{SlotView}
+use Rattle.omci_types.specs.declared.Boot.{Boot}
+use Rattle.omci_types.specs.declared.Boot.TheVariants.{PowerUp, Activated}
 use Rattle.omci_types.specs.declared.Priority.{Priority}
 use Rattle.omci_types.specs.declared.Priority.TheVariants.{Low, High}
 use Rattle.message_spec.specs.Text.{message_text, contents_text}
@@ -27,13 +29,15 @@ use Rattle.manager_spec.specs.declared.ResyncReason.{ResyncReason}
 use Rattle.manager_spec.specs.declared.ResyncReason.TheVariants as reason
 use Rattle.manager_spec.specs.declared.AuditReason.{AuditReason}
 use Rattle.manager_spec.specs.declared.AuditReason.TheVariants as audit
+use Rattle.manager_spec.specs.declared.ImageReason.{ImageReason}
+use Rattle.manager_spec.specs.declared.ImageReason.TheVariants as image
 use Rattle.manager_spec.specs.declared.Refusal.{Refusal}
 use Rattle.manager_spec.specs.declared.Refusal.TheVariants as refusal
 use Rattle.manager_spec.specs.declared.Report.{Report}
 use Rattle.manager_spec.specs.declared.Report.TheVariants as report
 use Rattle.world_spec.specs.declared.Effect.{Effect}
 use Rattle.world_spec.specs.declared.Effect.TheVariants as effect
-use Rattle.world_spec.specs.Happenings.{Happening, UnitStarted, PacketSent, UnitCarried, UnitNoted, UnitKept, UnitDropped, CopyTold, TableTold, Reported, Refused, NotEnabled, next_after}
+use Rattle.world_spec.specs.Happenings.{Happening, UnitStarted, PacketSent, UnitCarried, UnitNoted, UnitKept, UnitDropped, UnitHeld, PowerCut, CopyTold, TableTold, Reported, Refused, NotEnabled, next_after}
 use Rattle.world_spec.specs.Ends.{factory_software}
 use Rattle.world_spec.specs.Nodes.{Nodes, Turn, step, first_nodes}
 
@@ -64,6 +68,7 @@ phase_text phase.Out = codes "out"
 abbrev pub job_text : Job → List ℕ
 job_text job.Resync = codes "resync"
 job_text job.Audit = codes "audit"
+job_text job.Image = codes "image"
 
 abbrev pub entity_text : EntityId → List ℕ
 entity_text one = decimal one.class ++ codes " " ++ decimal one.instance
@@ -87,6 +92,10 @@ audit_reason_text (audit.Repeated one) = codes "repeated " ++ entity_text one
 audit_reason_text (audit.Gap want have) = gap_text want have
 audit_reason_text audit.Overflow = codes "overflow"
 
+abbrev pub image_reason_text : ImageReason → List ℕ
+image_reason_text (image.GaveUp tci) = codes "gave-up " ++ tci_text tci
+image_reason_text (image.Code code) = codes "code " ++ decimal code.0
+
 abbrev pub refusal_text : Refusal → List ℕ
 refusal_text (refusal.Unproven lane) = codes "unproven " ++ lane_text lane
 refusal_text (refusal.Occupied tci) = codes "occupied " ++ tci_text tci
@@ -109,6 +118,9 @@ report_text (report.Checked given expected) =
     codes "checked " ++ decimal given ++ codes " " ++ decimal expected
 report_text (report.Audited rows) = codes "audited " ++ decimal rows
 report_text (report.AuditFailed why) = codes "audit failed " ++ audit_reason_text why
+report_text (report.ImageDone slot) = codes "image done " ++ decimal slot
+report_text (report.ImageFailed why) = codes "image failed " ++ image_reason_text why
+report_text (report.Busy times) = codes "busy " ++ decimal times
 report_text (report.AlarmTaken number) = codes "notice " ++ decimal number
 report_text (report.AlarmRepeat number) = codes "repeat " ++ decimal number
 report_text (report.AlarmGap want have) = gap_text want have
@@ -118,10 +130,18 @@ report_text (report.Change notice) =
     codes "change " ++ entity_text notice.entity ++ codes " " ++ contents_text notice.contents
 report_text report.Dropped = codes "dropped"
 
+abbrev pub boot_text : Boot → List ℕ
+boot_text PowerUp = codes "power-up"
+boot_text (Activated slot) = codes "activate " ++ decimal slot
+
 abbrev pub note_text : Note → List ℕ
 note_text (note.Snapshot entities counter) =
     codes "snapshot " ++ decimal entities ++ codes " " ++ decimal counter
 note_text (note.Alarms rows) = codes "alarms " ++ decimal rows
+note_text (note.Sealed slot size check) =
+    codes "sealed " ++ decimal slot ++ codes " " ++ decimal size ++ codes " " ++ encode_lower (to_be_bytes w32 check)
+note_text (note.Committed slot) = codes "committed " ++ decimal slot
+note_text (note.Leaving boot) = codes "leaving " ++ boot_text boot
 
 unfoldable pub effect_text : Effect → List ℕ
 effect_text (effect.UnitStarted life s) =
@@ -131,6 +151,8 @@ effect_text (effect.PacketSent number direction frame) =
 effect_text (effect.Carried life) = codes "carried " ++ decimal life
 effect_text (effect.Noted what) = note_text what
 effect_text effect.Kept = codes "kept"
+effect_text effect.Held = codes "held"
+effect_text effect.Cut = codes "cut"
 effect_text effect.Dropped = codes "dropped"
 effect_text (effect.Refused why) = codes "refused " ++ refusal_text why
 effect_text (effect.Reported what) = report_text what
@@ -179,6 +201,8 @@ effect_of next (UnitCarried life reply before) = Some (effect.Carried life)
 effect_of next (UnitNoted life note before) = Some (effect.Noted note)
 effect_of next UnitKept = Some effect.Kept
 effect_of next UnitDropped = Some effect.Dropped
+effect_of next UnitHeld = Some effect.Held
+effect_of next PowerCut = Some effect.Cut
 effect_of next (Reported what) = Some (effect.Reported what)
 effect_of next (Refused why) = Some (effect.Refused why)
 effect_of next NotEnabled = Some effect.NotEnabled

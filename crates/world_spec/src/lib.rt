@@ -28,8 +28,12 @@ pub enum Effect {
     Noted(Note),
     /// The unit gave its kept reply again.
     Kept,
+    /// The unit holds a section that isn't its window's last.
+    Held,
     /// The unit did nothing with a packet.
     Dropped,
+    /// The power of the unit went while a packet came.
+    Cut,
     /// The manager did not submit a command.
     Refused(Refusal),
     /// The manager reports something.

@@ -1,5 +1,5 @@
 use Rattle.std.proofs.Common.{sym, ◌∙◌}
-use Rattle.script_laws.proofs.Forms.{ok_same}
+use Rattle.script_laws.proofs.Steps.{ok_same}
 use Rattle.script_laws.proofs.Scripts.{reading-Writes}
 use Rattle.script_laws.proofs.bytes_write_one_script.Goals as goal
 

@@ -3,10 +3,10 @@ use Rattle.unit_laws.proofs.Sound.{sound_started, sound_received, sound_ticked, 
 use Rattle.unit_laws.proofs.unit_stays_sound.Goals as goal
 
 pub returns-clause-started : goal.returns-clause-started
-returns-clause-started c software = sound_started software
+returns-clause-started c boot room slots = sound_started boot room slots
 
 pub returns-clause-received : goal.returns-clause-received
-returns-clause-received c bytes u s = sound_received bytes u s
+returns-clause-received c fails bytes u s = sound_received fails bytes u s
 
 pub returns-clause-ticked : goal.returns-clause-ticked
 returns-clause-ticked c u s = sound_ticked u s

@@ -1,4 +1,4 @@
-use Rattle.std.proofs.Common.{◌≡◌, ◌≢◌, ◌∙◌, inl, inr, ℕ, IsSome, refl, sym, ap, subst, Some}
+use Rattle.std.proofs.Common.{true, false, ◌≡◌, ◌≢◌, ◌∙◌, inl, inr, ℕ, IsSome, refl, sym, ap, subst, Some}
 use Rattle.slot_spec.specs.Rig.{Rigged}
 use Rattle.std.proofs.lemmas.Bool.{cases_eq}
 use Rattle.std.specs.Option.{is_some}
@@ -6,7 +6,8 @@ use Rattle.slot_spec.specs.declared.DiskHeader.{DiskHeader}
 use Rattle.slot_spec.specs.Slots.{SlotPair, Change, Keep, Commit as CommitSlot, with_committed}
 use Rattle.slot_spec.specs.Header.{view_at}
 use Rattle.slot_spec.specs.Owner.{Settled}
-use Rattle.image_slots.specs.Answers.{commit_change}
+use Rattle.image_slots.specs.Answers.{commit_change, commit_calls}
+use Rattle.image_store.proofs.Calling.{makes_these, commit_calls_other, commit_calls_same, within_commit, within_recommit}
 use Rattle.store_spec.specs.State.{software_in}
 use Rattle.store_spec.specs.Deeds.{Commit, Recommit}
 use Rattle.store_laws.proofs.Tests.{valid_is, commit_none, commit_same, commit_other}
@@ -37,10 +38,14 @@ returns-in-Ok g c = record {
       elim (cases_eq slot m.slots.committed) [
         | inl same ↦ rw (commit_same slot m.slots some same) (done g.D.Disk.seen g.D.Disk.may_leave g.D.Disk.clock g.D.Disk.left_since g.D.Disk.rig g.D.Disk.faults room c.args.active granted held old.disk _ _ (Recommit slot) m s.whole
             (slots_after g.D.Disk.seen g.D.Disk.may_leave room c.args.active old.header slots m.slots m.download m s.whole s.active_is s.room_is room_same (subst (λ (x : SlotPair). Settled g.D.Disk.seen g.D.Disk.may_leave slots.disk slots.header x) (same_committed m.slots slot same) settled), none) c.carried.ensures.value (c.in-Ok.ensures.kept refl)
-            (changed_at g.D.Disk.may_leave g.D.Disk.clock g.D.Disk.left_since g.D.Disk.rig room Keep m.slots old.header old.disk slots.disk s.room_is (subst (λ (x : Change). Changed g.D.Disk.may_leave g.D.Disk.clock g.D.Disk.left_since g.D.Disk.rig old.header.room x m.slots old.disk slots.disk) (commit_change_same slot old.header view (same ∙ sym s.settled.shows.committed_is)) made)))
+            (changed_at g.D.Disk.may_leave g.D.Disk.clock g.D.Disk.left_since g.D.Disk.rig room Keep m.slots old.header old.disk slots.disk s.room_is (subst (λ (x : Change). Changed g.D.Disk.may_leave g.D.Disk.clock g.D.Disk.left_since g.D.Disk.rig old.header.room x m.slots old.disk slots.disk) (commit_change_same slot old.header view (same ∙ sym s.settled.shows.committed_is)) made))
+            (makes_these room (Recommit slot) m (commit_calls slot old.header) _ _ false (λ bytes. sym (commit_calls_same slot old.header view (same ∙ sym s.settled.shows.committed_is))) c.in-Ok.ensures.rig)
+            (within_recommit g.D.Disk.seen g.D.Disk.may_leave g.D.Disk.rig g.met.D.Disk.rig_reads room m old.header old.disk s.room_is s.settled slot))
         | inr other ↦ rw (commit_other slot m.slots some other) (done g.D.Disk.seen g.D.Disk.may_leave g.D.Disk.clock g.D.Disk.left_since g.D.Disk.rig g.D.Disk.faults room c.args.active granted held old.disk _ _ (Commit slot) m s.whole
             (slots_after g.D.Disk.seen g.D.Disk.may_leave room c.args.active old.header slots (with_committed slot m.slots) m.download m s.whole s.active_is s.room_is room_same settled, none) c.carried.ensures.value (c.in-Ok.ensures.kept refl)
-            (changed_at g.D.Disk.may_leave g.D.Disk.clock g.D.Disk.left_since g.D.Disk.rig room (CommitSlot slot) m.slots old.header old.disk slots.disk s.room_is (subst (λ (x : Change). Changed g.D.Disk.may_leave g.D.Disk.clock g.D.Disk.left_since g.D.Disk.rig old.header.room x m.slots old.disk slots.disk) (commit_change_other slot old.header view (λ e. other (e ∙ s.settled.shows.committed_is))) made)))
+            (changed_at g.D.Disk.may_leave g.D.Disk.clock g.D.Disk.left_since g.D.Disk.rig room (CommitSlot slot) m.slots old.header old.disk slots.disk s.room_is (subst (λ (x : Change). Changed g.D.Disk.may_leave g.D.Disk.clock g.D.Disk.left_since g.D.Disk.rig old.header.room x m.slots old.disk slots.disk) (commit_change_other slot old.header view (λ e. other (e ∙ s.settled.shows.committed_is))) made))
+            (makes_these room (Commit slot) m (commit_calls slot old.header) _ _ false (λ bytes. sym (commit_calls_other slot old.header view (λ e. other (e ∙ s.settled.shows.committed_is)))) c.in-Ok.ensures.rig)
+            (within_commit g.D.Disk.seen g.D.Disk.may_leave g.D.Disk.rig g.met.D.Disk.rig_reads room m old.header old.disk s.room_is s.settled slot))
       ];
 }
 
@@ -59,6 +64,7 @@ returns-in-Err-Fault g c = record {
       let slot = c.args.slot in
       let t = rw c.in-Err-Fault.field-0-is at c.in-Err-Fault.ensures.refused in
       let told = rw c.in-Err-Fault.field-0-is at c.in-Err-Fault.ensures.told in
+      let rig = rw c.in-Err-Fault.field-0-is at c.in-Err-Fault.ensures.rig in
       let cause = rw c.in-Err-Fault.field-0-is at c.in-Err-Fault.ensures.cause in
       let moments = rw c.in-Err-Fault.field-0-is at (c.in-Err-Fault.ensures.moments m.slots s.settled) in
       let long = rw c.in-Err-Fault.field-0-is at (λ (size : ℕ). c.in-Err-Fault.ensures.length m.slots size s.settled) in
@@ -67,5 +73,5 @@ returns-in-Err-Fault g c = record {
       let some = valid_is slot old.header m.slots s.settled.bytes s.settled.shows ∙ t.0 in
       let other : slot ≢ m.slots.committed = λ e. t.1 (e ∙ sym s.settled.shows.committed_is) in
       let changed = changed_at g.D.Disk.may_leave g.D.Disk.clock g.D.Disk.left_since g.D.Disk.rig room (CommitSlot slot) m.slots old.header old.disk c.in-Err-Fault.broken.disk s.room_is (subst (λ (x : Change). Changed g.D.Disk.may_leave g.D.Disk.clock g.D.Disk.left_since g.D.Disk.rig old.header.room x m.slots old.disk c.in-Err-Fault.broken.disk) (commit_change_other slot old.header t.0 t.1) (record { moments = moments; length = long; outcome = outcome; gates = gates })) in
-      rw (commit_other slot m.slots some other) (broke g.D.Disk.seen g.D.Disk.may_leave g.D.Disk.clock g.D.Disk.left_since g.D.Disk.rig g.D.Disk.faults room c.args.active granted held old.disk c.in-Err-Fault.broken _ _ (Commit slot) m c.refused-in-Err-Fault.ensures.value s.whole s.active_is refl (c.slots_software-software.ensures.shows m.slots s.settled ∙ ap (λ k. software_in k m.slots) (sym s.active_is)) (told (told_of _ _ s.settled.reads)) (cause refl) changed);
+      rw (commit_other slot m.slots some other) (broke g.D.Disk.seen g.D.Disk.may_leave g.D.Disk.clock g.D.Disk.left_since g.D.Disk.rig g.D.Disk.faults room c.args.active granted held old.disk c.in-Err-Fault.broken _ _ (Commit slot) m c.refused-in-Err-Fault.ensures.value s.whole s.active_is refl (c.slots_software-software.ensures.shows m.slots s.settled ∙ ap (λ k. software_in k m.slots) (sym s.active_is)) (told (told_of _ _ s.settled.reads)) (cause refl) changed (makes_these room (Commit slot) m (commit_calls slot old.header) _ _ true (λ bytes. sym (commit_calls_other slot old.header t.0 t.1)) rig) (within_commit g.D.Disk.seen g.D.Disk.may_leave g.D.Disk.rig g.met.D.Disk.rig_reads room m old.header old.disk s.room_is s.settled slot));
 }

@@ -1,4 +1,4 @@
-use Rattle.std.proofs.Common.{◌≡◌, ◌∙◌, Some, None, refl, sym, ap, subst, ℕ}
+use Rattle.std.proofs.Common.{true, false, ◌≡◌, ◌∙◌, Some, None, refl, sym, ap, subst, ℕ}
 use Rattle.slot_spec.specs.Rig.{Rigged}
 use Rattle.slot_spec.specs.declared.DiskHeader.{DiskHeader}
 use Rattle.slot_spec.specs.Slots.{Change, with_image, Seal as SealSlot}
@@ -7,6 +7,8 @@ use Rattle.store_spec.specs.State.{software_in}
 use Rattle.store_spec.specs.Deeds.{Seal}
 use Rattle.store_laws.proofs.Tests.{seal_passed, seal_size, seal_check}
 use Rattle.image_store.specs.Carries.{Changed}
+use Rattle.image_slots.specs.Answers.{seal_calls}
+use Rattle.image_store.proofs.Calling.{makes_these, seal_calls_are, within_seal}
 use Rattle.image_store.proofs.Changing.{changed_at, seal_change_is}
 use Rattle.image_store.proofs.Carrying.{told_of, slots_after, done, broke, gave_up}
 use Rattle.image_store.proofs.finish.seal.Goals as goal
@@ -27,7 +29,9 @@ returns-in-Ok g c = record {
       })) in
       let same = ap (λ (h : DiskHeader). h.room) c.in-Ok.ensures.header ∙ room_kept d.target _ d.header in
       rw is (done g.D.Disk.seen g.D.Disk.may_leave g.D.Disk.clock g.D.Disk.left_since g.D.Disk.rig g.D.Disk.faults room c.args.active granted held d.disk _ _ (Seal d.target l.put) m l.whole
-      (slots_after g.D.Disk.seen g.D.Disk.may_leave room c.args.active d.header slots (with_image d.target (Some l.put) m.slots) None m l.whole l.active_is l.room_is same (c.in-Ok.ensures.settled m.slots l.put l.filling l.loaded), refl) c.carried.ensures.value (c.in-Ok.ensures.kept refl) changed);
+      (slots_after g.D.Disk.seen g.D.Disk.may_leave room c.args.active d.header slots (with_image d.target (Some l.put) m.slots) None m l.whole l.active_is l.room_is same (c.in-Ok.ensures.settled m.slots l.put l.filling l.loaded), refl) c.carried.ensures.value (c.in-Ok.ensures.kept refl) changed
+      (makes_these room (Seal d.target l.put) m (seal_calls c.args.check c.args.size d.target d.have d.size d.crc d.version) _ _ false (λ bytes. sym (seal_calls_are c.args.check c.args.size d.target d.have d.size d.crc d.version l.put t.0 t.1 t.2 l.loaded.have l.loaded.check l.loaded.version_is)) c.in-Ok.ensures.rig)
+      (within_seal g.D.Disk.seen g.D.Disk.may_leave g.D.Disk.rig g.met.D.Disk.rig_reads room m d.header d.disk l.room_is l.filling.settled d.target l.put));
 }
 
 pub returns-in-Err-Size : goal.returns-in-Err-Size
@@ -54,6 +58,7 @@ returns-in-Err-Fault g c = record {
       let d = c.args.download in
       let t = rw c.in-Err-Fault.field-0-is at c.in-Err-Fault.ensures.refused in
       let told = rw c.in-Err-Fault.field-0-is at c.in-Err-Fault.ensures.told in
+      let rig = rw c.in-Err-Fault.field-0-is at c.in-Err-Fault.ensures.rig in
       let cause = rw c.in-Err-Fault.field-0-is at c.in-Err-Fault.ensures.cause in
       let moments = rw c.in-Err-Fault.field-0-is at (c.in-Err-Fault.ensures.moments m.slots l.put l.filling l.loaded) in
       let long = rw c.in-Err-Fault.field-0-is at (λ (size : ℕ). c.in-Err-Fault.ensures.length m.slots l.put size l.filling) in
@@ -62,5 +67,7 @@ returns-in-Err-Fault g c = record {
       let is = seal_passed c.args.check c.args.size d.target d.size granted l.put held (sym l.loaded.have ∙ t.0) (t.1 ∙ l.loaded.have) (t.2 ∙ l.loaded.check) in
       let change = seal_change_is c.args.check c.args.size d.target d.have d.size d.crc l.put t.0 t.1 t.2 in
       let changed = changed_at g.D.Disk.may_leave g.D.Disk.clock g.D.Disk.left_since g.D.Disk.rig room (SealSlot d.target l.put) m.slots d.header d.disk c.in-Err-Fault.broken.disk l.room_is (subst (λ (x : Change). Changed g.D.Disk.may_leave g.D.Disk.clock g.D.Disk.left_since g.D.Disk.rig d.header.room x m.slots d.disk c.in-Err-Fault.broken.disk) change (record { moments = moments; length = long; outcome = outcome; gates = gates })) in
-      rw is (broke g.D.Disk.seen g.D.Disk.may_leave g.D.Disk.clock g.D.Disk.left_since g.D.Disk.rig g.D.Disk.faults room c.args.active granted held d.disk c.in-Err-Fault.broken _ _ (Seal d.target l.put) m c.refused-in-Err-Fault.ensures.value l.whole l.active_is refl (c.download_software-software.ensures.shows m.slots l.filling.settled ∙ ap (λ k. software_in k m.slots) (sym l.active_is)) (told (told_of _ _ l.filling.settled.reads)) (cause refl) changed);
+      rw is (broke g.D.Disk.seen g.D.Disk.may_leave g.D.Disk.clock g.D.Disk.left_since g.D.Disk.rig g.D.Disk.faults room c.args.active granted held d.disk c.in-Err-Fault.broken _ _ (Seal d.target l.put) m c.refused-in-Err-Fault.ensures.value l.whole l.active_is refl (c.download_software-software.ensures.shows m.slots l.filling.settled ∙ ap (λ k. software_in k m.slots) (sym l.active_is)) (told (told_of _ _ l.filling.settled.reads)) (cause refl) changed
+      (makes_these room (Seal d.target l.put) m (seal_calls c.args.check c.args.size d.target d.have d.size d.crc d.version) _ _ true (λ bytes. sym (seal_calls_are c.args.check c.args.size d.target d.have d.size d.crc d.version l.put t.0 t.1 t.2 l.loaded.have l.loaded.check l.loaded.version_is)) rig)
+      (within_seal g.D.Disk.seen g.D.Disk.may_leave g.D.Disk.rig g.met.D.Disk.rig_reads room m d.header d.disk l.room_is l.filling.settled d.target l.put));
 }

@@ -1,4 +1,4 @@
-use Rattle.std.proofs.Common.{◌+◌, sym, ap, ◌∙◌, arith, length, refl}
+use Rattle.std.proofs.Common.{sym, ap, ◌∙◌, arith, length, refl}
 use Rattle.std.proofs.lemmas.Bool.{eqb-true}
 use Rattle.script_spec.specs.Text.{lines_of, opening}
 use Rattle.replay_script.proofs.Loops.{passed_line, plain_line, no_line, lines_of-empty}

@@ -1,7 +1,7 @@
-use Rattle.link_replay.proofs.Deliveries.{both_ticked}
+use Rattle.link_replay.proofs.Seconds.{both_ticked}
 use Rattle.link_replay.proofs.machine.Machine.second.Goals as goal
 
 pub returns : goal.returns
 returns c = record {
-  follows = both_ticked c.args.self.now c.tick_manager.new.self c.tick_unit.new.self c.args.out.now.items c.tick_manager.new.out.items c.in_ok-tick_manager.ensures.follows c.tick_unit.ensures.ends;
+  follows = both_ticked c.args.self.now c.tick_manager.new.self c.tick_unit.new.self c.args.out.now.items c.tick_manager.new.out.items c.tick_unit.new.out.items c.in_ok-tick_manager.ensures.follows c.in_ok-tick_unit.ensures.follows;
 }

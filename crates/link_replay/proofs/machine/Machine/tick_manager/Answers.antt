@@ -3,7 +3,7 @@ use Rattle.manager_spec.specs.Manager.{packets_of}
 use Rattle.manager_spec.specs.Steps.{after_tick}
 use Rattle.olt_manager.specs.State.{State}
 use Rattle.link_replay.proofs.Following.{ticked_there}
-use Rattle.link_replay.proofs.Deliveries.{not_ticked}
+use Rattle.link_replay.proofs.Seconds.{not_ticked}
 use Rattle.link_replay.proofs.machine.Machine.tick_manager.Goals as goal
 
 pub returns : goal.returns

@@ -2,7 +2,8 @@
 use Rattle.std.proofs.Common.{refl, rules}
 use Rattle.std.specs.Prelude.{codes}
 use Rattle.std.proofs.lemmas.Slice.Eq.{text_from_reads}
-use Rattle.script_spec.specs.declared.Line.TheVariants.{Create, Delete, Resync, Deliver}
+use Rattle.script_spec.specs.declared.Line.TheVariants.{Create, Delete, Activate, Commit, Reboot}
+use Rattle.script_spec.specs.declared.Line.TheVariants.{Resync, Deliver}
 use Rattle.replay_script.proofs.Names.{line_by_word}
 use Rattle.replay_script.proofs.words.LineWords.named_line.Goals as goal
 
@@ -18,6 +19,27 @@ returns-in-delete c = record {
   value =
       line_by_word Delete (codes "delete") refl _ _ _ c.in_ok-word.ensures.value
       (text_from_reads _ (codes "delete") (search rules) (search rules));
+}
+
+pub returns-in-activate : goal.returns-in-activate
+returns-in-activate c = record {
+  value =
+      line_by_word Activate (codes "activate") refl _ _ _ c.in_ok-word.ensures.value
+      (text_from_reads _ (codes "activate") (search rules) (search rules));
+}
+
+pub returns-in-commit : goal.returns-in-commit
+returns-in-commit c = record {
+  value =
+      line_by_word Commit (codes "commit") refl _ _ _ c.in_ok-word.ensures.value
+      (text_from_reads _ (codes "commit") (search rules) (search rules));
+}
+
+pub returns-in-reboot : goal.returns-in-reboot
+returns-in-reboot c = record {
+  value =
+      line_by_word Reboot (codes "reboot") refl _ _ _ c.in_ok-word.ensures.value
+      (text_from_reads _ (codes "reboot") (search rules) (search rules));
 }
 
 pub returns-in-resync : goal.returns-in-resync
