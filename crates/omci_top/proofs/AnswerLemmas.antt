@@ -1,5 +1,5 @@
 -- What the answer to an input says, from what a run of it came to.
-use Rattle.std.proofs.Common.{◌≡◌, ℕ, List, Option, Some, Ok, Err, refl, sym, ◌∙◌, ap, subst, inr}
+use Rattle.std.proofs.Common.{◌≡◌, ℕ, List, take, Option, Some, Ok, Err, refl, sym, ◌∙◌, ap, subst, inr}
 use Rattle.std.specs.Io.KnownBytes.{Appends}
 use Rattle.std.specs.List.{All}
 use Rattle.script_spec.specs.Script.{Script, Header, Action, IsAction}
@@ -9,10 +9,15 @@ use Rattle.script_spec.specs.Reading.{reading}
 use Rattle.script_laws.proofs.Scripts.{reading-Writes, reading_range}
 use Rattle.world_spec.specs.Trace.{trace}
 use Rattle.tci_spec.specs.Tci.{IsNumber}
-use Rattle.history_spec.specs.History.{Once, Answered, SyncedRight, AuditedRight}
+use Rattle.history_spec.specs.History.{Once, Answered, SyncedRight, AuditedRight, DownloadedRight, store_history}
+use Rattle.store_spec.specs.History.{Bootable}
+use Rattle.world_spec.specs.Ends.{factory_slots}
+use Rattle.world_spec.specs.Nodes.{first_nodes, nodes_after}
 use Rattle.world_spec.specs.History.{history_of}
 use Rattle.step_laws.specs.InStep.{ScriptInStep}
+use Rattle.boot_laws.specs.Slots.{slots_in}
 use Rattle.omci_top.specs.Streams.{ReadsWhole}
+use Rattle.omci_top.specs.Headline.{ActsOnce, TakesOwnReplies, CopiesDatabases, StaysInStep, AuditsAlarms, DownloadsImages, AlwaysBoots}
 use Rattle.omci_top.specs.Texts.{input_text, answer_of, answer_to}
 use Rattle.omci_top.specs.declared.status.Status.{Status}
 use Rattle.omci_top.specs.declared.status.Status.TheVariants.{Done, Usage, Input, ReadFault, WriteFault, DiskFault, TooLong, NoMemory, TooLarge}
@@ -77,18 +82,34 @@ InStepLaw =
     (h : Header) (actions : List Action) → IsNumber h.low → IsNumber h.high → All IsAction actions
     → ScriptInStep h actions
 
+-- the law that a download leaves its image
+abbrev pub DownloadedLaw : Type 0
+DownloadedLaw =
+    (h : Header) (actions : List Action) → IsNumber h.low → IsNumber h.high → All IsAction actions
+    → DownloadedRight (history_of h actions)
+
+-- the law that the unit can start after each line
+abbrev pub BootsLaw : Type 0
+BootsLaw =
+    (h : Header) (actions : List Action)
+    → Bootable (store_history (history_of h actions)) (factory_slots h.factory)
+    (slots_in (nodes_after actions (first_nodes h)).ends)
+
 -- what the laws of the machine say of a script
 pub record Lawful (script : Script) : Type 0 where
-  pub once : Once (history_of script.header script.actions)
-  pub answered : Answered (history_of script.header script.actions)
-  pub synced : SyncedRight (history_of script.header script.actions)
-  pub audited : AuditedRight (history_of script.header script.actions)
-  pub in_step : ScriptInStep script.header script.actions
+  pub once : ActsOnce script
+  pub answered : TakesOwnReplies script
+  pub synced : CopiesDatabases script
+  pub in_step : StaysInStep script
+  pub audited : AuditsAlarms script
+  pub downloaded : DownloadsImages script
+  pub bootable : AlwaysBoots script
 
--- the numbers of a script's header and its lines are in their ranges, so the laws of the machine hold of it
-pub laws_hold : OnceLaw → AnsweredLaw → SyncedLaw → AuditedLaw → InStepLaw → (script : Script)
-    (input : List ℕ) → Writes script input → Lawful script
-laws_hold once answered synced audited in_step script input spelled =
+-- the numbers of a script's header and its lines are in their ranges, so the laws of the machine
+-- hold of it
+pub laws_hold : OnceLaw → AnsweredLaw → SyncedLaw → InStepLaw → AuditedLaw → DownloadedLaw → BootsLaw
+    → (script : Script) (input : List ℕ) → Writes script input → Lawful script
+laws_hold once answered synced in_step audited downloaded boots script input spelled =
     let ranges = reading_range input script (reading-Writes script input spelled) in
     let header = ranges.header in
     let low : IsNumber script.header.low = record { some = header.low_some; most = header.low_most } in
@@ -97,8 +118,10 @@ laws_hold once answered synced audited in_step script input spelled =
       once = once script.header script.actions low high ranges.actions;
       answered = answered script.header script.actions low high ranges.actions;
       synced = synced script.header script.actions low high ranges.actions;
-      audited = audited script.header script.actions low high ranges.actions;
       in_step = in_step script.header script.actions low high ranges.actions;
+      audited = audited script.header script.actions low high ranges.actions;
+      downloaded = downloaded script.header script.actions low high ranges.actions;
+      bootable = λ lines. boots script.header (take lines script.actions);
     }
 
 -- so the answer says of source and sink what it has to say
@@ -120,8 +143,10 @@ AnswersReplay-ends laws Done world input lb ln wb wn rb rn kb kn read same ends 
         once = k.once;
         answered = k.answered;
         synced = k.synced;
-        audited = k.audited;
         in_step = k.in_step;
+        audited = k.audited;
+        downloaded = k.downloaded;
+        bootable = k.bootable;
       },
       same,
       ends.1,

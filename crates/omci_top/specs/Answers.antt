@@ -7,9 +7,7 @@ use Rattle.script_spec.specs.Grammar.{Writes}
 use Rattle.script_spec.specs.Fault.{fault}
 use Rattle.world_spec.specs.Nodes.{first_nodes, nodes_after}
 use Rattle.world_spec.specs.Trace.{trace}
-use Rattle.history_spec.specs.History.{Once, Answered, SyncedRight, AuditedRight}
-use Rattle.world_spec.specs.History.{history_of}
-use Rattle.step_laws.specs.InStep.{ScriptInStep}
+use Rattle.omci_top.specs.Headline.{WritesTrace, ActsOnce, TakesOwnReplies, CopiesDatabases, StaysInStep, AuditsAlarms, DownloadsImages, AlwaysBoots}
 use Rattle.omci_top.specs.Streams.{ReadsWhole, ReadsPast}
 use Rattle.link_replay.specs.Seen.{State, WorldStands}
 use Rattle.link_replay.specs.Writing.{WritesFront}
@@ -63,23 +61,28 @@ Ends WriteFault world input before now faults_before faults_now =
     WritesFront (answer_to input) before now × Rose faults_before faults_now
 Ends _ world input before now faults_before faults_now = ⊥
 
--- The source was read to its end, its bytes spell a script, the script's trace was written, and the world ran all its events. In
--- this script's history no command is carried out twice, each reply taken is its command's own, the copy of each
--- resynchronisation is what its upload put by, and the table of each audit is the alarms that it put by, followed by the notices
--- that were taken since. After each line of it a manager in step has a copy with which the database of the
--- unit agrees, as long as the unit lives, but for one change that is outstanding.
-pub record Replays (world : Option State) (left_before left_now written_before written_now : Option (List ℕ)) : Type 0 where
+-- The headline: what a replay that is done promises. The script was read to its end, and what was
+-- written is exactly what the manager and the unit did under it. Whatever it loses, delays, repeats,
+-- cuts off or starts again: no command acts twice on a unit that lives on; each reply that the
+-- manager takes is its command's own; a completed resynchronisation gives it the unit's database,
+-- and from then on the two keep step; a completed audit gives it the unit's alarms; a completed
+-- download leaves its very image; and at every moment the unit can start, with an image that was
+-- checked before it was committed.
+pub record Replays (world : Option State)
+    (left_before left_now written_before written_now : Option (List ℕ)) : Type 0 where
   pub input : List ℕ
   pub script : Script
   pub read : ReadsWhole 16777216 left_before left_now input
   pub spelled : Writes script input
-  pub traced : Appends written_before written_now (trace script)
+  pub traced : WritesTrace script written_before written_now
   pub ended : StandsAfter script world
-  pub once : Once (history_of script.header script.actions)
-  pub answered : Answered (history_of script.header script.actions)
-  pub synced : SyncedRight (history_of script.header script.actions)
-  pub audited : AuditedRight (history_of script.header script.actions)
-  pub in_step : ScriptInStep script.header script.actions
+  pub once : ActsOnce script
+  pub answered : TakesOwnReplies script
+  pub synced : CopiesDatabases script
+  pub in_step : StaysInStep script
+  pub audited : AuditsAlarms script
+  pub downloaded : DownloadsImages script
+  pub bootable : AlwaysBoots script
 
 -- The source was read to its end, its bytes have this first fault, and the one line that says so was written.
 pub record Refuses (place reason : ℕ) (left_before left_now written_before written_now : Option (List ℕ)) : Type 0 where

@@ -10,6 +10,8 @@ ghost use Rattle.omci_top.specs.Answers.{Ran, Told, Ends, AnswersReplay, StandsA
 use crate::status::Status;
 use crate::streams::{InputFault, read_whole};
 use audit_laws::audits_are_snapshots;
+use boot_laws::every_life_boots;
+use downloaded_laws::downloads_are_what_was_checked;
 use link_replay::{RunFault, World, write_all};
 use omci_contents::{push_bytes, push_number};
 use omci_core::{NoMemory, Sink, Source};
@@ -137,8 +139,10 @@ pub fn replay<S: Source, K: Sink>(alloc: Global, source: &mut S, sink: &mut K) -
 {
     commands_act_once();
     copies_are_snapshots();
-    audits_are_snapshots();
     copies_keep_step();
+    audits_are_snapshots();
+    downloads_are_what_was_checked();
+    every_life_boots();
     match read_whole(alloc, source) {
         Ok(input) => answer(alloc, input, sink),
         Err(InputFault::Read) => without_world(Status::ReadFault),

@@ -300,7 +300,7 @@ on_running slot (Some l) s =
     holds_if (slot == l.target) (hold_deed s l) (holds_by (answer_of s false l.window) s l)
 
 -- a section that isn't its window's last is held or dropped
-quiet_section : (room tci : ℕ) (one : EntityId) (r : Request) (m : StoreState)
+pub quiet_section : (room tci : ℕ) (one : EntityId) (r : Request) (m : StoreState)
     → asks_nothing r ≡ true → IsQuietDeed (deed room tci one r m)
 unfolding deed
 quiet_section room tci one (request.Section number bytes false) m e =

@@ -7,7 +7,9 @@ use Rattle.omci_types.specs.declared.Priority.{Priority}
 use Rattle.tci_spec.specs.Tci.{priority_of, tci_of, packet_tci}
 use Rattle.link_spec.specs.declared.Direction.TheVariants.{Down, Up}
 use Rattle.link_spec.specs.Link.{Sent, Link, Ways, way_of, lane_of, may_come, if_may_come, allowed_one, allowed, count}
-use Rattle.retry_spec.specs.Kept.{Reply, kept_in}
+use Rattle.omci_types.specs.declared.Frame.{Frame}
+use Rattle.frame_spec.specs.Baseline.{packet_frame}
+use Rattle.retry_spec.specs.Kept.{Reply, if_answers, kept_in, kept_for}
 use Rattle.lane_spec.specs.Command.{is_probe}
 use Rattle.lane_spec.specs.Lane.{Lane, Waiting}
 use Rattle.manager_spec.specs.Manager.{Manager, lane_in}
@@ -27,6 +29,7 @@ use Rattle.world_spec.specs.Nodes.{Nodes, first_nodes, nodes_after}
 use Rattle.world_spec.specs.History.{Told, first_told, drawn_in, name_at}
 use Rattle.world_laws.specs.Facts.{AreReached, MayCome, MayBeCarriedOut, MayBeTaken, IsAwaited, KeepsTci}
 use Rattle.world_laws.proofs.Tcis.{same_number, some_tci}
+use Rattle.world_laws.proofs.Reading.{tci_read}
 use Rattle.world_laws.proofs.Likeness.{tci_at, IsPacket, at_place, same_length, Awaits, IsOut, IsLaneOf, IsKept, lane_like, busy}
 use Rattle.world_laws.proofs.Unit.{IsSilent, IsAsked, reception_is}
 use Rattle.world_laws.proofs.Turns.{Rests}
@@ -189,17 +192,22 @@ carried_down l i s u n t p h m g = record {
       (ap (tci_of l) same ∙ sym g.tci);
 }
 
-pub is_fresh : (l : Priority) (n : Nodes) (t : Told) (i : ℕ) (s : Sent) (u : Onu) → Linked n t
-    → MayBeCarriedOut l n i s u
+fresh_by : (l : Priority) (n : Nodes) (t : Told) (i : ℕ) (s : Sent) (k : Linked n t)
+    → (g : GoesDown l i s t k.channel) → moves.MayBeCarriedOut l k.channel i g.transaction
     → WasCarried n.ends.lives (name_at i t.names) t.history → ⊥
-is_fresh l n t i s u k m was =
+fresh_by l n t i s k g m was =
     let like = k.rests in
-    let g = goes_down l i s n t k.channel k.rests m.comes in
-    carried_fresh l k.channel i g.transaction k.sound
-    (carried_down l i s u n t k.channel k.rests m g)
+    carried_fresh l k.channel i g.transaction k.sound m
     (subst (λ x. WasCarried x g.transaction.id k.channel.shared.history) like.lives_are
     (subst (λ x. WasCarried n.ends.lives x k.channel.shared.history) g.name
     (subst (λ x. WasCarried n.ends.lives (name_at i t.names) x) like.history was)))
+
+pub is_fresh : (l : Priority) (n : Nodes) (t : Told) (i : ℕ) (s : Sent) (u : Onu) → Linked n t
+    → MayBeCarriedOut l n i s u
+    → WasCarried n.ends.lives (name_at i t.names) t.history → ⊥
+is_fresh l n t i s u k m =
+    let g = goes_down l i s n t k.channel k.rests m.comes in
+    fresh_by l n t i s k g (carried_down l i s u n t k.channel k.rests m g)
 
 -- the manager waits for the command for which the channel does
 record Waited (l : Priority) (last : ℕ) (m : Lane) (s : LaneState) (o : Outstanding) : Type 0 where
@@ -218,14 +226,13 @@ waiting_for l last m s o h e =
     go None f k = absurd k
     go (Some w) f k = record { waiting = w; is = f; awaits = k }
 
-pub is_awaited : (l : Priority) (n : Nodes) (t : Told) (i : ℕ) (s : Sent) (u : Onu) (m : Manager)
-    → Linked n t → n.ends.manager ≡ Some m
-    → (lane_in l m).proved ≡ true → MayBeCarriedOut l n i s u → IsAwaited l m t i s
-is_awaited l n t i s u m k on proved may =
-    let g = goes_down l i s n t k.channel k.rests may.comes in
+awaited_by : (l : Priority) (n : Nodes) (t : Told) (i : ℕ) (s : Sent) (m : Manager)
+    (k : Linked n t) → n.ends.manager ≡ Some m → (lane_in l m).proved ≡ true
+    → (g : GoesDown l i s t k.channel) → moves.MayBeCarriedOut l k.channel i g.transaction
+    → IsAwaited l m t i s
+awaited_by l n t i s m k on proved g may =
     let lane = lane_like l t m k.channel (k.rests.manager_is m on) in
-    let a = carried_awaited l k.channel i g.transaction k.sound (sym lane.proved_is ∙ proved)
-    (carried_down l i s u n t k.channel k.rests may g) in
+    let a = carried_awaited l k.channel i g.transaction k.sound (sym lane.proved_is ∙ proved) may in
     let w = waiting_for l (drawn_in l t) (lane_in l m) (lane_view l k.channel).lane a.outstanding
     lane a.waits in
     record {
@@ -236,6 +243,59 @@ is_awaited l n t i s u m k on proved may =
           (ap (λ x. x.packets) (sym a.same) ∙ sym w.awaits.packets) g.own;
       name = g.name ∙ ap (λ x. x.id) (sym a.same) ∙ sym w.awaits.name;
     }
+
+pub is_awaited : (l : Priority) (n : Nodes) (t : Told) (i : ℕ) (s : Sent) (u : Onu) (m : Manager)
+    → Linked n t → n.ends.manager ≡ Some m
+    → (lane_in l m).proved ≡ true → MayBeCarriedOut l n i s u → IsAwaited l m t i s
+is_awaited l n t i s u m k on proved may =
+    let g = goes_down l i s n t k.channel k.rests may.comes in
+    awaited_by l n t i s m k on proved g (carried_down l i s u n t k.channel k.rests may g)
+
+-- ---- what the unit doesn't drop
+
+-- no kept reply answers the packet, be it carried out or a section that is held
+pub record MayBeServed (lane : Priority) (n : Nodes) (number : ℕ) (s : Sent) (u : Onu) : Type 0 where
+  pub comes : MayCome Down lane n number s
+  pub on : n.ends.unit ≡ Some u
+  pub frame : Frame
+  pub read : packet_frame s.bytes ≡ Some frame
+  pub unkept : kept_for frame.tci u.kept ≡ None
+
+unkept_differs : (tci : ℕ) (o : Option Reply) → if_answers tci o ≡ None
+    → KeepsIt tci o ⊎ KeepsOther tci o → (q : Reply) → o ≡ Some q → q.tci ≢ tci
+unkept_differs tci o none (inl it) q is = absurd (let a = it.answers in cc)
+unkept_differs tci o none (inr other) q is = other.differs q is
+
+served_down : (l : Priority) (i : ℕ) (s : Sent) (u : Onu) (n : Nodes) (t : Told) (p : Channel)
+    → Rests n t p → MayBeServed l n i s u
+    → (g : GoesDown l i s t p) → moves.MayBeCarriedOut l p i g.transaction
+served_down l i s u n t p h m g =
+    let tci : m.frame.tci ≡ packet_tci s.bytes = tci_read s.bytes m.frame m.read in
+    let lane : priority_of m.frame.tci ≡ l = ap priority_of tci ∙ m.comes.in_lane in
+    record {
+      comes = g.may;
+      differs = λ k e same. has_other l (packet_tci s.bytes) (kept_in l u.kept) k
+          (subst (IsKept l (kept_in l u.kept)) e (kept_like l u.kept p (h.unit_is u m.on)))
+          (λ q is. subst (λ x. q.tci ≢ x) tci
+          (unkept_differs m.frame.tci (kept_in l u.kept)
+          (sym (kept_for_is l m.frame.tci u.kept lane) ∙ m.unkept)
+          (keeps m.frame.tci (kept_in l u.kept)) q is))
+          (ap (tci_of l) same ∙ sym g.tci);
+    }
+
+pub served_fresh : (l : Priority) (n : Nodes) (t : Told) (i : ℕ) (s : Sent) (u : Onu) → Linked n t
+    → MayBeServed l n i s u
+    → WasCarried n.ends.lives (name_at i t.names) t.history → ⊥
+served_fresh l n t i s u k m =
+    let g = goes_down l i s n t k.channel k.rests m.comes in
+    fresh_by l n t i s k g (served_down l i s u n t k.channel k.rests m g)
+
+pub served_awaited : (l : Priority) (n : Nodes) (t : Told) (i : ℕ) (s : Sent) (u : Onu)
+    (m : Manager) → Linked n t → n.ends.manager ≡ Some m
+    → (lane_in l m).proved ≡ true → MayBeServed l n i s u → IsAwaited l m t i s
+served_awaited l n t i s u m k on proved may =
+    let g = goes_down l i s n t k.channel k.rests may.comes in
+    awaited_by l n t i s m k on proved g (served_down l i s u n t k.channel k.rests may g)
 
 -- ---- what the manager may take
 

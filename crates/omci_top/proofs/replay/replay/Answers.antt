@@ -5,5 +5,6 @@ pub returns-in-Ok-clause-answers : goal.returns-in-Ok-clause-answers
 returns-in-Ok-clause-answers g c =
     AnswersReplay-ends
     (laws_hold c.commands_act_once.ensures.once c.commands_act_once.ensures.answered
-    c.copies_are_snapshots.ensures.synced c.audits_are_snapshots.ensures
-    c.copies_keep_step.ensures.script) c.answer.result.status c.answer.result.world c.in-Ok.input.items _ _ _ _ _ _ _ _ c.in-Ok.ensures.whole c.in-Ok.ensures.kept c.answer.ensures.ends
+    c.copies_are_snapshots.ensures.synced c.copies_keep_step.ensures.script
+    c.audits_are_snapshots.ensures c.downloads_are_what_was_checked.ensures
+    c.every_life_boots.ensures) c.answer.result.status c.answer.result.world c.in-Ok.input.items _ _ _ _ _ _ _ _ c.in-Ok.ensures.whole c.in-Ok.ensures.kept c.answer.ensures.ends

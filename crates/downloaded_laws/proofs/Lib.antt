@@ -1,0 +1,13 @@
+mod Reading
+mod Unit
+mod Invariants
+mod Telling
+mod Going
+mod Aside
+mod Taking
+mod Turns
+mod Deeds
+mod Carrying
+mod Serving
+mod Lines
+mod Runs
