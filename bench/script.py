@@ -1,6 +1,7 @@
 #!/usr/bin/env python3
-"""Writes a script that resynchronises and then has N commands on class 272, each followed by `flow 2`: creates 40 %, sets
-30 %, gets 20 %, deletes 10 % over 4,000 instances. The same N gives the same script."""
+"""Writes a script that resynchronises and then has N commands on class 272, each followed by
+`flow 2`: creates 40 %, sets 30 %, gets 20 %, deletes 10 % over 4,000 instances. The same N gives
+the same script."""
 import random
 import sys
 

@@ -1,7 +1,9 @@
-"""Writes a stream of frames to standard output: stream.py SET BYTES, where SET is `baseline` or `both`.
+"""Writes a stream of frames to standard output: stream.py SET BYTES, where SET is `baseline` or
+`both`.
 
-Frames are drawn with a fixed seed from a pool of 400 baseline frames and, with `both`, 400 extended ones of 0 to 300 contents
-bytes, over all kinds of messages. The stream has as many whole frames as BYTES have room for, and `check` refuses none of them."""
+Frames are drawn with a fixed seed from a pool of 400 baseline frames and, with `both`, 400 extended
+ones of 0 to 300 contents bytes, over all kinds of messages. The stream has as many whole frames as
+BYTES have room for, and `check` refuses none of them."""
 import random
 import struct
 import sys
@@ -30,13 +32,15 @@ def drawn(length):
     return bytes(random.randrange(256) for _ in range(length))
 
 
-REQUESTS = [0x44, 0x46, 0x48, 0x49, 0x4B, 0x4C, 0x4D, 0x4E, 0x4F, 0x53, 0x54, 0x55, 0x56, 0x57, 0x59]
+REQUESTS = [0x44, 0x46, 0x48, 0x49, 0x4B, 0x4C, 0x4D, 0x4E, 0x4F]
+REQUESTS += [0x53, 0x54, 0x55, 0x56, 0x57, 0x59]
 RESPONSES = [kind ^ 0x60 for kind in REQUESTS]
 KINDS = REQUESTS + RESPONSES + [0x14, 0x10, 0x11]
 
 
 def head(kind, device):
-    return struct.pack(">HBBHH", random.randrange(65536), kind, device, random.randrange(65536), random.randrange(65536))
+    tci, entity_class, instance = (random.randrange(65536) for _ in range(3))
+    return struct.pack(">HBBHH", tci, kind, device, entity_class, instance)
 
 
 def baseline():

@@ -1,5 +1,5 @@
--- Eight bytes at once: the register is added to the first four, and each byte then leaves what it
--- leaves with those after it as zeros.
+-- Eight bytes at once, or four: the register is added to the first four, and each byte then leaves
+-- what it leaves with those after it as zeros.
 use Rattle.std.proofs.Common.{◌≡◌, ℕ, ◌*◌, ◌/◌, ◌%◌, ◌^◌, List, [], ◌∷◌, ◌++◌, length, get_or, replicate, refl, ap, sym, ◌∙◌, arith}
 use Rattle.std.specs.Prelude.{bit_xor}
 use Rattle.frame_spec.specs.Checksum.{bits_of, add_to_front, message_bits}
@@ -141,4 +141,41 @@ after_block-bits register block e7 e6 e5 e4 e3 e2 e1 e0 whole is7 is6 is5 is4 is
     ∙ taken s3 b5 e2 (b6 ∷ b7 ∷ []) is2
     ∙ taken s2 b6 e1 (b7 ∷ []) is1
     ∙ taken s1 b7 e0 [] is0
+    ∙ ended (bit_xor s1 e0))
+
+four-cons : (half : List ℕ) → length half ≡ 4 → half ≡ get_or half 0 0 ∷ get_or half 1 0 ∷ get_or half 2 0 ∷ get_or half 3 0 ∷ []
+four-cons [] whole = absurd (omega arith)
+four-cons (a ∷ []) whole = absurd (omega arith)
+four-cons (a ∷ b ∷ []) whole = absurd (omega arith)
+four-cons (a ∷ b ∷ c ∷ []) whole = absurd (omega arith)
+four-cons (a ∷ b ∷ c ∷ d ∷ []) whole = refl
+four-cons (a ∷ b ∷ c ∷ d ∷ e ∷ rest) whole = absurd (omega arith)
+
+-- Four bytes taken in by their entries are their bits taken in.
+pub after_half-bits : (register : ℕ) (half : List ℕ) (e3 e2 e1 e0 : ℕ) → length half ≡ 4 →
+    bits_of 32 e3 ≡ entry_bits 3 (bit_xor (register / 2 ^ 24 % 256) (get_or half 0 0)) →
+    bits_of 32 e2 ≡ entry_bits 2 (bit_xor (register / 2 ^ 16 % 256) (get_or half 1 0)) →
+    bits_of 32 e1 ≡ entry_bits 1 (bit_xor (register / 2 ^ 8 % 256) (get_or half 2 0)) →
+    bits_of 32 e0 ≡ entry_bits 0 (bit_xor (register % 256) (get_or half 3 0)) →
+    bits_of 32 (bit_xor (bit_xor (bit_xor e3 e2) e1) e0) ≡ after_bits (bits_of 32 register) (message_bits half)
+after_half-bits register half e3 e2 e1 e0 whole is3 is2 is1 is0 =
+    let b0 = get_or half 0 0 in
+    let b1 = get_or half 1 0 in
+    let b2 = get_or half 2 0 in
+    let b3 = get_or half 3 0 in
+    let x0 = bit_xor (register / 2 ^ 24 % 256) b0 in
+    let x1 = bit_xor (register / 2 ^ 16 % 256) b1 in
+    let x2 = bit_xor (register / 2 ^ 8 % 256) b2 in
+    let x3 = bit_xor (register % 256) b3 in
+    let s2 = bit_xor e3 e2 in
+    let s1 = bit_xor s2 e1 in
+    sym (ap (λ (l : List ℕ). after_bits (bits_of 32 register) (message_bits l)) (four-cons half whole)
+    ∙ after_bits-zero_register (bits_of 32 register) (message_bits (b0 ∷ b1 ∷ b2 ∷ b3 ∷ [])) (IsBits-bits_of 32 register)
+    (IsBits-message_bits (b0 ∷ b1 ∷ b2 ∷ b3 ∷ [])) (length-bits_of 32 register)
+    (omega (arith, length-message_bits (b0 ∷ b1 ∷ b2 ∷ b3 ∷ [])))
+    ∙ ap (λ (l : List ℕ). after_bits zero_register l) (register_added register b0 b1 b2 b3 [])
+    ∙ begun x0 e3 (x1 ∷ x2 ∷ x3 ∷ []) is3
+    ∙ taken e3 x1 e2 (x2 ∷ x3 ∷ []) is2
+    ∙ taken s2 x2 e1 (x3 ∷ []) is1
+    ∙ taken s1 x3 e0 [] is0
     ∙ ended (bit_xor s1 e0))

@@ -5,3 +5,4 @@ pub mod Sums
 pub mod Entries
 pub mod Blocks
 pub mod Value
+pub mod Mixing

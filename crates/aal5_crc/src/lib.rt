@@ -3,9 +3,9 @@
 //! complemented. No call takes memory.
 #![tactic(auto)]
 
-ghost use Rattle.std.specs.Prelude.{◌≡◌, ℕ, ◌<◌, List, [], ◌++◌, length, IsTrue};
+ghost use Rattle.std.specs.Prelude.{◌≡◌, ℕ, ◌<◌, ◌≤◌, List, [], ◌++◌, length, IsTrue};
 ghost use Rattle.frame_spec.specs.Checksum.{bits_of, message_bits, crc};
-ghost use Rattle.aal5_crc.specs.Register.{after_bits, entry_bits, table_is_right};
+ghost use Rattle.aal5_crc.specs.Register.{mixed, after_bits, entry_bits, table_is_right};
 
 mod table;
 
@@ -80,8 +80,21 @@ fn advanced(table: &[u32; 2048], register: u32, bytes: &[u8]) -> u32
     after_rest(table, register, &bytes[place..])
 }
 
-// The register after these bytes, one at a time.
+// The register after these bytes: the first four at once, where there are so many, and the others
+// one at a time.
 fn after_rest(table: &[u32; 2048], register: u32, bytes: &[u8]) -> u32
+    requires { IsTrue (table_is_right table.now) }
+    ensures bits { bits_of 32 result ≡ after_bits (bits_of 32 register) (message_bits bytes.now) }
+{
+    if bytes.len() < 4 {
+        return after_each(table, register, bytes);
+    }
+    let register = after_half(table, register, &bytes[..4]);
+    after_each(table, register, &bytes[4..])
+}
+
+// The register after these bytes, one at a time.
+fn after_each(table: &[u32; 2048], register: u32, bytes: &[u8]) -> u32
     requires { IsTrue (table_is_right table.now) }
     ensures bits { bits_of 32 result ≡ after_bits (bits_of 32 register) (message_bits bytes.now) }
 {
@@ -92,6 +105,15 @@ fn after_rest(table: &[u32; 2048], register: u32, bytes: &[u8]) -> u32
     register
 }
 
+// The register to which the first four bytes are added, as bytes.
+#[inline(always)]
+fn mixed(register: u32, bytes: &[u8]) -> [u8; 4]
+    requires { 4 ≤ length bytes.now }
+    ensures bytes { result ≡ mixed register bytes.now }
+{
+    (register ^ u32::from_be_bytes([bytes[0], bytes[1], bytes[2], bytes[3]])).to_be_bytes()
+}
+
 // The register after eight more bytes. It is added to the first four of them, and each byte then
 // counts by itself, with those after it as zeros.
 fn after_block(table: &[u32; 2048], register: u32, block: &[u8]) -> u32
@@ -99,15 +121,26 @@ fn after_block(table: &[u32; 2048], register: u32, block: &[u8]) -> u32
     requires whole { length block.now ≡ 8 }
     ensures bits { bits_of 32 result ≡ after_bits (bits_of 32 register) (message_bits block.now) }
 {
-    let [a, b, c, d] = register.to_be_bytes();
-    entry(table, 7, a ^ block[0])
-        ^ entry(table, 6, b ^ block[1])
-        ^ entry(table, 5, c ^ block[2])
-        ^ entry(table, 4, d ^ block[3])
+    let [a, b, c, d] = mixed(register, block);
+    entry(table, 7, a)
+        ^ entry(table, 6, b)
+        ^ entry(table, 5, c)
+        ^ entry(table, 4, d)
         ^ entry(table, 3, block[4])
         ^ entry(table, 2, block[5])
         ^ entry(table, 1, block[6])
         ^ entry(table, 0, block[7])
+}
+
+// The register after four more bytes, to which it is added. Each byte then counts by itself, with
+// those after it as zeros.
+fn after_half(table: &[u32; 2048], register: u32, half: &[u8]) -> u32
+    requires right { IsTrue (table_is_right table.now) }
+    requires whole { length half.now ≡ 4 }
+    ensures bits { bits_of 32 result ≡ after_bits (bits_of 32 register) (message_bits half.now) }
+{
+    let [a, b, c, d] = mixed(register, half);
+    entry(table, 3, a) ^ entry(table, 2, b) ^ entry(table, 1, c) ^ entry(table, 0, d)
 }
 
 // The register after one more byte.

@@ -21,7 +21,8 @@ told one (Some (notice.Change mask values)) = []
 -- what the notices of these changes tell, oldest first
 abbrev pub notices_of : List Alarm → Log → List Alarm
 notices_of [] log = []
-notices_of (one ∷ rest) log = told one.0 (change one.0 one.1 log).notice ++ notices_of rest (change one.0 one.1 log).log
+notices_of (one ∷ rest) log = told one.0 (change one.0 one.1 log).notice
+    ++ notices_of rest (change one.0 one.1 log).log
 
 -- the table after a notice of the entity, where there is one
 abbrev pub take_given : EntityId → Option Notice → Table → Table
@@ -32,7 +33,8 @@ take_given one (Some (notice.Change mask values)) t = t
 -- the table after the notices of these changes
 abbrev pub after_notices : List Alarm → Log → Table → Table
 after_notices [] log t = t
-after_notices (one ∷ rest) log t = after_notices rest (change one.0 one.1 log).log (take_given one.0 (change one.0 one.1 log).notice t)
+after_notices (one ∷ rest) log t = after_notices rest (change one.0 one.1 log).log
+    (take_given one.0 (change one.0 one.1 log).notice t)
 
 -- the table after these rows
 abbrev pub after_rows : List (List ℕ) → Table → Table

@@ -29,7 +29,10 @@ abbrev pub unless_same : Bool → EntityId → List ℕ → Log → Changed
 unless_same true one bitmap log = record { log = log; notice = None }
 unless_same false one bitmap log =
     record {
-      log = record { alarms = with_bitmap one bitmap log.alarms; number = alarm_number_after log.number };
+      log = record {
+        alarms = with_bitmap one bitmap log.alarms;
+        number = alarm_number_after log.number;
+      };
       notice = Some (notice.Alarm bitmap (alarm_number_after log.number));
     }
 

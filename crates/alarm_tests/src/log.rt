@@ -1,6 +1,6 @@
 //! The unit's log: its notices, their numbers, and its snapshots.
 
-use alarm_log::{AlarmLog, Notice};
+use alarm_log::{AlarmLog, AlarmSnapshot, NoMemory, Notice};
 use omci_types::EntityId;
 use std::test::Fail;
 
@@ -35,11 +35,26 @@ fn change(log: &mut AlarmLog, entity: EntityId, bitmap: [u8; 28]) -> Result<Opti
     Ok(log.change(entity, bitmap)?)
 }
 
+/// How many entities have an alarm, and the number of the last notice.
+fn counts(log: &AlarmLog) -> (usize, u8) {
+    (log.len(), log.number())
+}
+
+/// What the log puts by.
+fn put_by(log: &mut AlarmLog) -> Result<AlarmSnapshot, NoMemory> {
+    log.snapshot()
+}
+
+/// The row of this number, where there is one.
+fn row(snapshot: &AlarmSnapshot, number: u16) -> Option<[u8; 32]> {
+    snapshot.row(number)
+}
+
 #[test]
 fn a_change_is_told_once(rt: HostRuntime) -> Result<(), Fail> {
     let mut log = AlarmLog::new(rt.alloc());
     assert_eq!(rt; change(&mut log, PORT, CLEAR)?, None);
-    assert_eq!(rt; log.len(), 0);
+    assert_eq!(rt; counts(&log), (0, 0));
     let told = change(&mut log, PORT, FIRST)?;
     assert_eq!(rt;
         told,
@@ -49,7 +64,7 @@ fn a_change_is_told_once(rt: HostRuntime) -> Result<(), Fail> {
         })
     );
     assert_eq!(rt; change(&mut log, PORT, FIRST)?, None);
-    assert_eq!(rt; (log.len(), log.number()), (1, 1));
+    assert_eq!(rt; counts(&log), (1, 1));
     let told = change(&mut log, PORT, CLEAR)?;
     assert_eq!(rt;
         told,
@@ -58,7 +73,7 @@ fn a_change_is_told_once(rt: HostRuntime) -> Result<(), Fail> {
             number: 2
         })
     );
-    assert_eq!(rt; (log.len(), log.number()), (0, 2));
+    assert_eq!(rt; counts(&log), (0, 2));
     Ok(())
 }
 
@@ -91,8 +106,8 @@ fn a_snapshot_stays_as_it_was(rt: HostRuntime) -> Result<(), Fail> {
     };
     change(&mut log, unit, LAST)?;
     change(&mut log, PORT, FIRST)?;
-    let snapshot = log.snapshot()?;
-    assert_eq!(rt; log.number(), 0);
+    let snapshot = put_by(&mut log)?;
+    assert_eq!(rt; counts(&log), (2, 0));
     assert_eq!(rt;
         change(&mut log, PORT, CLEAR)?,
         Some(Notice::Alarm {
@@ -100,13 +115,13 @@ fn a_snapshot_stays_as_it_was(rt: HostRuntime) -> Result<(), Fail> {
             number: 1
         })
     );
-    assert_eq!(rt; (snapshot.count(), log.len()), (2, 1));
-    assert_eq!(rt; snapshot.row(0), Some(PORT_ROW));
-    let mut row = [0; 32];
-    row[0] = 1;
-    row[31] = 1;
-    assert_eq!(rt; snapshot.row(1), Some(row));
-    assert!(rt; snapshot.row(2).is_none());
-    assert!(rt; snapshot.row(65535).is_none());
+    assert_eq!(rt; (snapshot.count(), counts(&log).0), (2, 1));
+    assert_eq!(rt; row(&snapshot, 0), Some(PORT_ROW));
+    let mut wanted = [0; 32];
+    wanted[0] = 1;
+    wanted[31] = 1;
+    assert_eq!(rt; row(&snapshot, 1), Some(wanted));
+    assert!(rt; row(&snapshot, 2).is_none());
+    assert!(rt; row(&snapshot, 65535).is_none());
     Ok(())
 }

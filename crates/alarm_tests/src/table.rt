@@ -1,7 +1,9 @@
-//! The manager's table: the answers to notices in their order, and audits.
+//! The manager's table: the answers to notices in their order, and audits. The tests call the table
+//! by functions that promise nothing, so that the proof of a test doesn't carry what each call says.
 
 use alarm_log::{AlarmLog, AlarmTable, NoMemory, RowFault, TakenAlarm};
 use omci_types::EntityId;
+use std::alloc::Global;
 use std::test::Fail;
 
 const PORT: EntityId = EntityId {
@@ -52,10 +54,42 @@ fn entry(table: &AlarmTable, place: usize) -> Option<(EntityId, [u8; 28])> {
     }
 }
 
+/// The table's answer to a notice.
+fn take(
+    table: &mut AlarmTable,
+    entity: EntityId,
+    bitmap: [u8; 28],
+    number: u8,
+) -> Result<TakenAlarm, NoMemory> {
+    table.take(entity, bitmap, number)
+}
+
+/// Begins the gathering of rows.
+fn begin(table: &mut AlarmTable) {
+    table.begin();
+}
+
+/// How many entities the table has.
+fn len(table: &AlarmTable) -> usize {
+    table.len()
+}
+
+/// Whether rows are gathered.
+fn gathers(table: &AlarmTable) -> bool {
+    table.is_gathering()
+}
+
+/// The first row of what a unit puts by that has told of the port's alarm 0.
+fn first_row(alloc: Global) -> Result<Option<[u8; 32]>, Fail> {
+    let mut log = AlarmLog::new(alloc);
+    log.change(PORT, FIRST)?;
+    Ok(log.snapshot()?.row(0))
+}
+
 /// Whether notices with the numbers from 1 to 255 are taken, one after the other.
 fn takes_all(table: &mut AlarmTable) -> Result<bool, NoMemory> {
     for number in 1..=255u8 {
-        if table.take(PORT, FIRST, number)? != TakenAlarm::Taken {
+        if take(table, PORT, FIRST, number)? != TakenAlarm::Taken {
             return Ok(false);
         }
     }
@@ -65,21 +99,21 @@ fn takes_all(table: &mut AlarmTable) -> Result<bool, NoMemory> {
 #[test]
 fn notices_are_taken_by_their_numbers(rt: HostRuntime) -> Result<(), Fail> {
     let mut table = AlarmTable::new(rt.alloc())?;
-    assert_eq!(rt; table.take(PORT, FIRST, 1)?, TakenAlarm::Unaudited);
-    table.begin();
+    assert_eq!(rt; take(&mut table, PORT, FIRST, 1)?, TakenAlarm::Unaudited);
+    begin(&mut table);
     finish(&mut table)?;
     assert!(rt; takes_all(&mut table)?);
-    assert_eq!(rt; table.take(PORT, FIRST, 1)?, TakenAlarm::Taken);
-    assert_eq!(rt; table.take(PORT, FIRST, 1)?, TakenAlarm::Repeat);
+    assert_eq!(rt; take(&mut table, PORT, FIRST, 1)?, TakenAlarm::Taken);
+    assert_eq!(rt; take(&mut table, PORT, FIRST, 1)?, TakenAlarm::Repeat);
     assert_eq!(rt;
-        table.take(PORT, FIRST, 3)?,
+        take(&mut table, PORT, FIRST, 3)?,
         TakenAlarm::Gap { want: 2, have: 3 }
     );
-    assert_eq!(rt; table.take(PORT, FIRST, 4)?, TakenAlarm::Unaudited);
-    table.begin();
+    assert_eq!(rt; take(&mut table, PORT, FIRST, 4)?, TakenAlarm::Unaudited);
+    begin(&mut table);
     finish(&mut table)?;
-    assert_eq!(rt; table.take(PORT, FIRST, 1)?, TakenAlarm::Taken);
-    assert_eq!(rt; table.len(), 1);
+    assert_eq!(rt; take(&mut table, PORT, FIRST, 1)?, TakenAlarm::Taken);
+    assert_eq!(rt; len(&table), 1);
     assert_eq!(rt; entry(&table, 0), Some((PORT, FIRST)));
     Ok(())
 }
@@ -87,36 +121,36 @@ fn notices_are_taken_by_their_numbers(rt: HostRuntime) -> Result<(), Fail> {
 #[test]
 fn no_more_than_255_notices_wait(rt: HostRuntime) -> Result<(), Fail> {
     let mut table = AlarmTable::new(rt.alloc())?;
-    table.begin();
+    begin(&mut table);
     assert!(rt; takes_all(&mut table)?);
-    assert_eq!(rt; table.len(), 0);
-    assert_eq!(rt; table.take(PORT, FIRST, 1)?, TakenAlarm::Overflow);
-    assert!(rt; !table.is_gathering());
-    assert_eq!(rt; table.take(PORT, FIRST, 1)?, TakenAlarm::Unaudited);
-    table.begin();
+    assert_eq!(rt; len(&table), 0);
+    assert_eq!(rt; take(&mut table, PORT, FIRST, 1)?, TakenAlarm::Overflow);
+    assert!(rt; !gathers(&table));
+    assert_eq!(rt; take(&mut table, PORT, FIRST, 1)?, TakenAlarm::Unaudited);
+    begin(&mut table);
     assert!(rt; takes_all(&mut table)?);
     finish(&mut table)?;
-    assert_eq!(rt; table.len(), 1);
-    assert_eq!(rt; table.take(PORT, FIRST, 1)?, TakenAlarm::Taken);
+    assert_eq!(rt; len(&table), 1);
+    assert_eq!(rt; take(&mut table, PORT, FIRST, 1)?, TakenAlarm::Taken);
     Ok(())
 }
 
 #[test]
 fn number_zero_is_a_gap(rt: HostRuntime) -> Result<(), Fail> {
     let mut table = AlarmTable::new(rt.alloc())?;
-    table.begin();
+    begin(&mut table);
     assert_eq!(rt;
-        table.take(PORT, FIRST, 0)?,
+        take(&mut table, PORT, FIRST, 0)?,
         TakenAlarm::Gap { want: 1, have: 0 }
     );
-    assert!(rt; !table.is_gathering());
+    assert!(rt; !gathers(&table));
     Ok(())
 }
 
 #[test]
 fn faults_of_rows_come_in_their_order(rt: HostRuntime) -> Result<(), Fail> {
     let mut table = AlarmTable::new(rt.alloc())?;
-    table.begin();
+    begin(&mut table);
     let mut other = PORT_ROW;
     other[3] = 0x02;
     other[4] = 0;
@@ -131,33 +165,30 @@ fn faults_of_rows_come_in_their_order(rt: HostRuntime) -> Result<(), Fail> {
         row(&mut table, &other)?,
         Err(RowFault::Repeated { entity: OTHER_PORT })
     );
-    assert_eq!(rt; table.len(), 0);
+    assert_eq!(rt; len(&table), 0);
     finish(&mut table)?;
-    assert_eq!(rt; table.len(), 2);
+    assert_eq!(rt; len(&table), 2);
     assert_eq!(rt; entry(&table, 0), Some((PORT, FIRST)));
     assert_eq!(rt; entry(&table, 1), Some((OTHER_PORT, CLEAR)));
     table.fail();
-    assert_eq!(rt; table.len(), 2);
-    assert_eq!(rt; table.take(PORT, FIRST, 1)?, TakenAlarm::Unaudited);
+    assert_eq!(rt; len(&table), 2);
+    assert_eq!(rt; take(&mut table, PORT, FIRST, 1)?, TakenAlarm::Unaudited);
     Ok(())
 }
 
 #[test]
 fn notices_come_after_the_rows(rt: HostRuntime) -> Result<(), Fail> {
-    let mut log = AlarmLog::new(rt.alloc());
     let mut table = AlarmTable::new(rt.alloc())?;
-    log.change(PORT, FIRST)?;
-    let snapshot = log.snapshot()?;
-    table.begin();
-    assert_eq!(rt; table.take(PORT, CLEAR, 1)?, TakenAlarm::Taken);
-    assert_eq!(rt; table.take(OTHER_PORT, FIRST, 2)?, TakenAlarm::Taken);
-    let Some(bytes) = snapshot.row(0) else {
+    begin(&mut table);
+    assert_eq!(rt; take(&mut table, PORT, CLEAR, 1)?, TakenAlarm::Taken);
+    assert_eq!(rt; take(&mut table, OTHER_PORT, FIRST, 2)?, TakenAlarm::Taken);
+    let Some(bytes) = first_row(rt.alloc())? else {
         return Err(Fail::new("no row"));
     };
     assert_eq!(rt; bytes, PORT_ROW);
     assert_eq!(rt; row(&mut table, &bytes)?, Ok(()));
     finish(&mut table)?;
-    assert_eq!(rt; table.len(), 1);
+    assert_eq!(rt; len(&table), 1);
     assert_eq!(rt; entry(&table, 0), Some((OTHER_PORT, FIRST)));
     Ok(())
 }

@@ -53,7 +53,8 @@ use Rattle.resync_laws.proofs.Invariants.{is_job, Lanes}
 use Rattle.resync_laws.proofs.Telling.{is_synced, NoneSynced, none_more}
 use Rattle.resync_laws.proofs.Going.{IsFree}
 use Rattle.window_spec.specs.Outgoing.{Outgoing}
-use Rattle.resync_laws.proofs.Taking.{IsImageStage, Downloads, start_downloads, window_downloads, end_downloads, Mild, mild_then, mild_report, Fails, fails, fails_audit, mild_followed, mild_checked, took_told, or_true, not_job, IsOwn, IsHeard}
+use Rattle.resync_laws.proofs.Mild.{IsImageStage, Downloads, start_downloads, window_downloads, end_downloads, Mild, mild_then, mild_report, Fails, fails, fails_audit}
+use Rattle.resync_laws.proofs.Taking.{mild_followed, mild_checked, took_told, or_true, not_job, IsOwn, IsHeard}
 use Rattle.audit_laws.proofs.Rows.{Fits, row_fits, zeros_empty}
 use Rattle.audit_laws.proofs.Reading.{alarms_read, row_read}
 use Rattle.audit_laws.proofs.Invariants.{same_alarms, with_notices, State, state_of, AsksAlarms, GathersRows, AtStage, is_audit, JobOk, job_none, job_other, Keeps, stage_kept}

@@ -30,7 +30,7 @@ use Rattle.world_spec.specs.History.{Told, tell_all}
 use Rattle.resync_laws.proofs.Sending.{drawn_low, drawn_high}
 use Rattle.resync_laws.proofs.Telling.{NoneSynced}
 use Rattle.resync_laws.proofs.Going.{never, never_replied}
-use Rattle.resync_laws.proofs.Taking.{Mild, mild_same, mild_leave}
+use Rattle.resync_laws.proofs.Mild.{Mild, mild_same, mild_leave}
 use Rattle.resync_laws.proofs.Turns.{two_none, three_none, five_none, not_running, lost_fails, lane_quiet, lane_taken, lane_noticed, resume_silent}
 use Rattle.audit_laws.proofs.Invariants.{state_of, AsksAlarms, AtStage, JobOk, job_none, job_other, Keeps, stage_kept}
 use Rattle.audit_laws.proofs.Telling.{Did, Goes, did_quiet, goes_nothing, goes_sent, goes_low, goes_high, goes_both}

@@ -26,8 +26,8 @@ pub fn audits_are_snapshots()
 }
 
 /// Scripts with an audit, worked by hand, have the traces that were worked with them: an alarm that
-/// was told before the audit is in its table, and so is one that was told meanwhile; beside an audit
-/// the lane is occupied, and no other lane is probed.
+/// was told before the audit is in its table, and so is one that was told meanwhile; beside an
+/// audit the lane is occupied, and no other lane is probed.
 pub fn worked_audits()
     ensures audited { trace audited ≡ audited_trace }
     ensures noticed { trace noticed ≡ noticed_trace }

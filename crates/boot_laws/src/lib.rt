@@ -22,8 +22,8 @@ pub fn every_life_boots()
         (slots_in (nodes_after actions (first_nodes h)).ends) }
 {}
 
-/// The slots of the law above are those that each life starts with: the first life with those of the
-/// factory, and where a line of a script begins another life, with those from before the line.
+/// The slots of the law above are those that each life starts with: the first life with those of
+/// the factory, and where a line of a script begins another life, with those from before the line.
 pub fn lives_start_with_these_slots()
     ensures first { (h : Header)
         → StartsWith (factory_slots h.factory) (first_nodes h).ends.unit }

@@ -1,4 +1,5 @@
-//! Takes the check value of 16 MiB as many times as the first word says, one after the other, and prints the value of all of them together.
+//! Takes the check value of 16 MiB as many times as the first word says, one after the other, and
+//! prints the value of all of them together.
 #![tactic(auto)]
 
 use aal5_crc::Crc;

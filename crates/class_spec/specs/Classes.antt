@@ -41,10 +41,19 @@ c width = record { width = width; written = true; created = true }
 abbrev pub attributes_from : ℕ → List Shape → List Attribute
 attributes_from number [] = []
 attributes_from number (shape ∷ shapes) =
-    record { number = number; width = shape.width; written = shape.written; created = shape.created } ∷ attributes_from (number + 1) shapes
+    record {
+      number = number;
+      width = shape.width;
+      written = shape.written;
+      created = shape.created;
+    } ∷ attributes_from (number + 1) shapes
 
 abbrev pub row : ℕ → Maker → List Shape → Row
-row number maker shapes = record { number = number; maker = maker; attributes = attributes_from 1 shapes }
+row number maker shapes = record {
+  number = number;
+  maker = maker;
+  attributes = attributes_from 1 shapes;
+}
 
 -- ONU data, software image, PPTP Ethernet UNI, MAC bridge service profile, MAC bridge port
 -- configuration data, VLAN tagging filter data, 802.1p mapper service profile, ONU-G, ONU2-G,
@@ -55,9 +64,11 @@ class_table =
     row 7 by_unit (r 14 ∷ r 1 ∷ r 1 ∷ r 1 ∷ []) ∷
     row 11 by_unit (w 1 ∷ r 1 ∷ w 1 ∷ w 1 ∷ w 1 ∷ r 1 ∷ r 1 ∷ w 2 ∷ w 1 ∷ w 2 ∷ w 1 ∷ []) ∷
     row 45 by_manager (c 1 ∷ c 1 ∷ c 1 ∷ c 2 ∷ c 2 ∷ c 2 ∷ c 2 ∷ c 1 ∷ c 1 ∷ c 4 ∷ []) ∷
-    row 47 by_manager (c 2 ∷ c 1 ∷ c 1 ∷ c 2 ∷ c 2 ∷ c 2 ∷ c 1 ∷ c 1 ∷ c 1 ∷ r 6 ∷ w 2 ∷ w 2 ∷ c 1 ∷ []) ∷
+    row 47 by_manager (c 2 ∷ c 1 ∷ c 1 ∷ c 2 ∷ c 2 ∷ c 2 ∷ c 1 ∷ c 1 ∷ c 1 ∷ r 6 ∷ w 2 ∷ w 2 ∷ c 1
+    ∷ []) ∷
     row 84 by_manager (c 24 ∷ c 1 ∷ c 1 ∷ []) ∷
-    row 130 by_manager (c 2 ∷ c 2 ∷ c 2 ∷ c 2 ∷ c 2 ∷ c 2 ∷ c 2 ∷ c 2 ∷ c 2 ∷ c 1 ∷ w 24 ∷ c 1 ∷ c 1 ∷ []) ∷
+    row 130 by_manager (c 2 ∷ c 2 ∷ c 2 ∷ c 2 ∷ c 2 ∷ c 2 ∷ c 2 ∷ c 2 ∷ c 2 ∷ c 1 ∷ w 24 ∷ c 1 ∷ c 1
+    ∷ []) ∷
     row 256 by_unit (r 4 ∷ r 14 ∷ r 8 ∷ r 1 ∷ r 1 ∷ w 1 ∷ w 1 ∷ r 1 ∷ []) ∷
     row 257 by_unit (r 20 ∷ r 1 ∷ r 2 ∷ r 1 ∷ w 1 ∷ r 2 ∷ r 1 ∷ r 1 ∷ r 2 ∷ []) ∷
     row 262 by_unit (w 2 ∷ r 1 ∷ w 1 ∷ []) ∷
@@ -78,4 +89,5 @@ class_row number = row_in class_table number
 -- the attribute of this number, where the list has one
 abbrev pub attribute_in : List Attribute → ℕ → Option Attribute
 attribute_in [] number = None
-attribute_in (one ∷ rest) number = if one.number == number then Some one else attribute_in rest number
+attribute_in (one ∷ rest) number = if one.number == number then Some one
+    else attribute_in rest number

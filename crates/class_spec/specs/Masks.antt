@@ -14,7 +14,8 @@ has mask number = mask / bit_of number % 2 == 1
 -- the mask of the attributes that pass
 abbrev pub mask_where : (Attribute → Bool) → List Attribute → ℕ
 mask_where passes [] = 0
-mask_where passes (one ∷ rest) = (if passes one then bit_of one.number else 0) + mask_where passes rest
+mask_where passes (one ∷ rest) = (if passes one then bit_of one.number else 0)
+    + mask_where passes rest
 
 -- the sum of the widths of the attributes that pass
 abbrev pub width_where : (Attribute → Bool) → List Attribute → ℕ
@@ -39,4 +40,5 @@ width_of row mask = width_where (λ one. has mask one.number) row.attributes
 
 -- the bytes before the value of this attribute
 unfoldable pub place_of : Row → ℕ → ℕ → ℕ
-place_of row mask number = width_where (λ one. has mask one.number && nat_lt one.number number) row.attributes
+place_of row mask number = width_where (λ one. has mask one.number && nat_lt one.number number)
+    row.attributes

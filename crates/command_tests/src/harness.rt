@@ -1,6 +1,7 @@
 //! The top call over memory.
 
 use omci_core::{MemSink, MemSource, NoMemory, Words};
+use omci_link::MemLink;
 use omci_top::{Status, omci};
 use slot_disk::MemDisk;
 use std::alloc::Global;
@@ -18,7 +19,8 @@ pub fn status_of(
         line.push(word.as_bytes())?;
     }
     let disk = MemDisk::new(alloc, 0)?;
-    Ok(omci(alloc, &line, source, sink, disk).status)
+    let mut link = MemLink::new(alloc, Vec::new(alloc), 0, Vec::new(alloc))?;
+    Ok(omci(alloc, &line, source, sink, disk, &mut link).status)
 }
 
 /// Whether a call with these words on this input, with nothing that fails outside, ends so and

@@ -9,6 +9,10 @@ mod frames;
 #[cfg(test)]
 mod harness;
 #[cfg(test)]
+mod olts;
+#[cfg(test)]
 mod scripts;
 #[cfg(test)]
 mod streams;
+#[cfg(test)]
+mod words;

@@ -28,7 +28,8 @@ pub record IsSectionOf (o : Outgoing) (number : ℕ) (bytes : List ℕ) (last : 
   pub there : slice_get (window_sections o) number ≡ Some bytes
   pub ends : last ≡ true → window_count o ≡ number + 1
 
--- what a deed that such a section comes to makes of the download: where it is put, it has the window
+-- what a deed that such a section comes to makes of the download: where it is put, it has the
+-- window
 abbrev pub Carried : Outgoing → Deed → Loading → Type 0
 Carried o (Put bytes) l = IfSome (download_after (Put bytes) (Some l)) (HasAll o)
 Carried o Ignore l = HasBefore o l

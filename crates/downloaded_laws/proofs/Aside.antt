@@ -28,7 +28,7 @@ use Rattle.manager_spec.specs.Copying.{followed_if, followed}
 use Rattle.manager_spec.specs.Resync.{with_job, resync_failed, done_if_counted, gather_unless_all, gather_on, piece_by}
 use Rattle.manager_spec.specs.Audit.{with_table, audit_failed, rows_unless_all, rows_on, row_by, audit_lost}
 use Rattle.manager_spec.specs.Steps.{code_of, first_value, job_probed, expected_counter, compared, checked_if, checked_by, followed_by, upload_by, piece_by_reply, alarms_by, row_by_reply, job_by}
-use Rattle.resync_laws.proofs.Taking.{fails}
+use Rattle.resync_laws.proofs.Mild.{fails}
 use Rattle.downloaded_laws.proofs.Invariants.{is_image, NoImage}
 use Rattle.downloaded_laws.proofs.Telling.{is_ending, NoneDone, done_more}
 

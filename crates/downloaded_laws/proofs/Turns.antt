@@ -30,7 +30,7 @@ use Rattle.history_spec.specs.History.{DownloadedRight}
 use Rattle.world_spec.specs.History.{Told}
 use Rattle.resync_laws.proofs.Sending.{drawn_low, drawn_high}
 use Rattle.resync_laws.proofs.Going.{never_replied}
-use Rattle.resync_laws.proofs.Taking.{Mild, mild_same, mild_leave}
+use Rattle.resync_laws.proofs.Mild.{Mild, mild_same, mild_leave}
 use Rattle.resync_laws.proofs.Turns.{two_none, five_none, not_running, lost_fails, resume_silent}
 use Rattle.downloaded_laws.proofs.Reading.{IsOrder}
 use Rattle.downloaded_laws.proofs.Invariants.{state_of, Starts, other_stage, JobOk, NoImage, job_other, job_at, stage_kept, passes_same, LaneKept, lane_same, same_unit, keeps_of}

@@ -25,7 +25,8 @@ listed_as one = (one.width, access_of one)
 -- the attributes are numbered from this number on, and each has 1 to 25 bytes
 abbrev pub IsNumbered : ℕ → List Listed → Type 0
 IsNumbered number [] = Unit {0}
-IsNumbered number (one ∷ rest) = (one.number ≡ number) × (1 ≤ one.width) × (one.width ≤ WIDEST_ATTRIBUTE) × IsNumbered (number + 1) rest
+IsNumbered number (one ∷ rest) = (one.number ≡ number) × (1 ≤ one.width)
+    × (one.width ≤ WIDEST_ATTRIBUTE) × IsNumbered (number + 1) rest
 
 -- the bytes of all attributes together
 abbrev pub whole_width : List Listed → ℕ

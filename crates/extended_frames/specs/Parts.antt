@@ -1,5 +1,5 @@
--- A message of an extended frame in code as the definitions have it: its kind, and the values of its
--- fields in the order in which they stand in the contents.
+-- A message of an extended frame in code as the definitions have it: its kind, and the values of
+-- its fields in the order in which they stand in the contents.
 use Rattle.std.specs.Prelude.{◌≤◌, ℕ, List, [], ◌∷◌, length, Result, Ok, Err}
 use Rattle.message_spec.specs.declared.Action.{Action}
 use Rattle.message_spec.specs.declared.Action.TheVariants.{Create, Delete, Set, Get, Alarms, AlarmsNext, Upload, UploadNext, Reset, Start, Section, End, Activate, Commit, Reboot}
@@ -61,9 +61,11 @@ long_request_values (requests.AlarmsNext n) = number n ∷ []
 long_request_values requests.Upload = []
 long_request_values (requests.UploadNext n) = number n ∷ []
 long_request_values requests.Reset = []
-long_request_values (requests.Start window size targets target) = number window ∷ number size ∷ number targets ∷ number target ∷ []
+long_request_values (requests.Start window size targets target) = number window ∷ number size
+    ∷ number targets ∷ number target ∷ []
 long_request_values (requests.Section n image last) = number n ∷ bytes image ∷ []
-long_request_values (requests.End crc size targets target) = number crc ∷ number size ∷ number targets ∷ number target ∷ []
+long_request_values (requests.End crc size targets target) = number crc ∷ number size
+    ∷ number targets ∷ number target ∷ []
 long_request_values (requests.Activate flags) = number flags ∷ []
 long_request_values requests.Commit = []
 long_request_values (requests.Reboot flags) = number flags ∷ []
@@ -90,8 +92,10 @@ long_response_action (responses.Reboot code) = Reboot
 abbrev pub long_response_values : LongResponse → List LongValue
 long_response_values (responses.Create code mask) = number code.0 ∷ number mask ∷ []
 long_response_values (responses.Delete code) = number code.0 ∷ []
-long_response_values (responses.Set code unsupported failed) = number code.0 ∷ number unsupported ∷ number failed ∷ []
-long_response_values (responses.Get code mask values unsupported failed) = number code.0 ∷ number mask ∷ number unsupported ∷ number failed ∷ bytes values ∷ []
+long_response_values (responses.Set code unsupported failed) = number code.0 ∷ number unsupported
+    ∷ number failed ∷ []
+long_response_values (responses.Get code mask values unsupported failed) = number code.0
+    ∷ number mask ∷ number unsupported ∷ number failed ∷ bytes values ∷ []
 long_response_values (responses.Alarms count) = number count ∷ []
 long_response_values (responses.AlarmsNext rows) = RowList rows ∷ []
 long_response_values (responses.Upload count) = number count ∷ []

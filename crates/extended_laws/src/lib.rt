@@ -29,13 +29,15 @@ pub fn frames_given_are_the_streams()
         IsCourse IsAny any_spelling (after_calls any_front MAX_PACKET_BYTES calls first_course) }
     ensures open { (calls : List Call) → All IsCall calls →
         any_front (after_calls any_front MAX_PACKET_BYTES calls first_course).reader.held ≡ Open →
-        IsStream IsAny any_spelling (after_calls any_front MAX_PACKET_BYTES calls first_course).bytes
+        IsStream IsAny any_spelling
+        (after_calls any_front MAX_PACKET_BYTES calls first_course).bytes
         (after_calls any_front MAX_PACKET_BYTES calls first_course).frames
         (after_calls any_front MAX_PACKET_BYTES calls first_course).reader.held }
     ensures faulty { (calls : List Call) → All IsCall calls → (fault : AnyFault) →
         any_front (after_calls any_front MAX_PACKET_BYTES calls first_course).reader.held
         ≡ Faulty fault →
-        IsStream IsAny any_spelling (after_calls any_front MAX_PACKET_BYTES calls first_course).bytes
+        IsStream IsAny any_spelling
+        (after_calls any_front MAX_PACKET_BYTES calls first_course).bytes
         (after_calls any_front MAX_PACKET_BYTES calls first_course).frames
         (after_calls any_front MAX_PACKET_BYTES calls first_course).reader.held }
 {}

@@ -58,7 +58,8 @@ long_of bytes = record {
 
 -- the check value after the contents
 unfoldable pub long_given : List ℕ → ℕ
-long_given bytes = from_be_bytes w32 (take CHECK_BYTES (drop (HEADER_BYTES + length_at bytes) bytes))
+long_given bytes = from_be_bytes w32
+    (take CHECK_BYTES (drop (HEADER_BYTES + length_at bytes) bytes))
 
 -- the check value of all bytes before it
 unfoldable pub long_computed : List ℕ → ℕ
@@ -75,7 +76,8 @@ long_fault_of bytes =
     if nat_lt (length bytes) HEADER_BYTES then Some (Short (length bytes))
     else if nat_lt MAX_LONG_CONTENTS (length_at bytes) then Some (Length (length_at bytes))
     else if nat_lt (length bytes) (long_bytes bytes) then Some (Short (length bytes))
-    else if not (long_given bytes == long_computed bytes) then Some (Check (long_given bytes) (long_computed bytes))
+    else if not (long_given bytes == long_computed bytes) then Some (Check (long_given bytes)
+    (long_computed bytes))
     else None
 
 -- a fault of a baseline frame as one of a frame of either set

@@ -52,7 +52,8 @@ long_layout (kinds.Request Set) = Fixed TwoBytes ∷ Rest ∷ []
 long_layout (kinds.Request Section) = Fixed OneByte ∷ Rest ∷ []
 long_layout kinds.UnansweredSection = Fixed OneByte ∷ Rest ∷ []
 -- code, mask, unsupported, failed, values
-long_layout (kinds.Response Get) = Fixed OneByte ∷ Fixed TwoBytes ∷ Fixed TwoBytes ∷ Fixed TwoBytes ∷ Rest ∷ []
+long_layout (kinds.Response Get) = Fixed OneByte ∷ Fixed TwoBytes ∷ Fixed TwoBytes ∷ Fixed TwoBytes
+    ∷ Rest ∷ []
 -- rows
 long_layout (kinds.Response AlarmsNext) = Rows ∷ []
 -- pieces
@@ -76,10 +77,11 @@ piece_bytes p =
 unfoldable pub row_bytes : AlarmRow → List ℕ
 row_bytes r = to_be_bytes w16 r.entity.class ++ to_be_bytes w16 r.entity.instance ++ r.bitmap
 
--- So many bytes has the piece that the bytes begin with. Where not even its width is there, it counts
--- as one without values.
+-- So many bytes has the piece that the bytes begin with. Where not even its width is there, it
+-- counts as one without values.
 unfoldable pub piece_size : List ℕ → ℕ
-piece_size bytes = if nat_lt (length bytes) 2 then PIECE_HEADER_BYTES else PIECE_HEADER_BYTES + number_at 0 bytes
+piece_size bytes = if nat_lt (length bytes) 2 then PIECE_HEADER_BYTES else PIECE_HEADER_BYTES
+    + number_at 0 bytes
 
 unfoldable pub piece_of : List ℕ → Piece
 piece_of bytes = record {
@@ -101,7 +103,8 @@ row_of bytes = record {
 -- that are passed over, and all that follows it.
 unfoldable pub each_after : {A : Type 0} → (List ℕ → ℕ) → (List ℕ → A) → ℕ → List ℕ → List A
 each_after size one passed [] = []
-each_after size one zero (byte ∷ rest) = one (byte ∷ rest) ∷ each_after size one (size (byte ∷ rest) - 1) rest
+each_after size one zero (byte ∷ rest) = one (byte ∷ rest)
+    ∷ each_after size one (size (byte ∷ rest) - 1) rest
 each_after size one (suc passed) (byte ∷ rest) = each_after size one passed rest
 
 abbrev pub pieces_in : List ℕ → List Piece
@@ -115,8 +118,8 @@ abbrev pub cut_or : Bool → ℕ → Option ℕ → Option ℕ
 cut_or true need further = Some need
 cut_or false need further = further
 
--- Where the last of what stands one after the other is cut, the bytes that would be there if it were
--- whole. So many bytes stand before these, and so many of these are passed over.
+-- Where the last of what stands one after the other is cut, the bytes that would be there if it
+-- were whole. So many bytes stand before these, and so many of these are passed over.
 unfoldable pub need_after : (List ℕ → ℕ) → ℕ → ℕ → List ℕ → Option ℕ
 need_after size before passed [] = None
 need_after size before zero (byte ∷ rest) =
@@ -137,19 +140,22 @@ fixed_width (Rows ∷ forms) = fixed_width forms
 -- the bytes that a list at the end would need, where its last member is cut
 abbrev pub list_need : List LongForm → ℕ → List ℕ → Option ℕ
 list_need [] before bytes = None
-list_need (Fixed form ∷ forms) before bytes = list_need forms (before + width form) (drop (width form) bytes)
+list_need (Fixed form ∷ forms) before bytes =
+    list_need forms (before + width form) (drop (width form) bytes)
 list_need (Rest ∷ forms) before bytes = None
 list_need (Pieces ∷ forms) before bytes = need_after piece_size before 0 bytes
 list_need (Rows ∷ forms) before bytes = need_after row_size before 0 bytes
 
 -- the bytes that contents would need, where they end before the fields do
 unfoldable pub need_of : List LongForm → List ℕ → Option ℕ
-need_of forms bytes = cut_or (nat_lt (length bytes) (fixed_width forms)) (fixed_width forms) (list_need forms 0 bytes)
+need_of forms bytes = cut_or (nat_lt (length bytes) (fixed_width forms)) (fixed_width forms)
+    (list_need forms 0 bytes)
 
 -- what the contents say in some fields, one after the other
 abbrev pub long_values : List LongForm → List ℕ → List LongValue
 long_values [] bytes = []
-long_values (Fixed form ∷ forms) bytes = Plain (value_at form 0 bytes) ∷ long_values forms (drop (width form) bytes)
+long_values (Fixed form ∷ forms) bytes = Plain (value_at form 0 bytes)
+    ∷ long_values forms (drop (width form) bytes)
 long_values (Rest ∷ forms) bytes = Plain (Bytes bytes) ∷ []
 long_values (Pieces ∷ forms) bytes = PieceList (pieces_in bytes) ∷ []
 long_values (Rows ∷ forms) bytes = RowList (rows_in bytes) ∷ []

@@ -41,7 +41,12 @@ long_plain m = record {
 
 abbrev pub parts_unless : Option ℕ → Kind → Long → Result Parts LongFault
 parts_unless (Some need) kind f = Err (ContentsShort (length f.contents) need)
-parts_unless None kind f = Ok (record { tci = f.tci; kind = kind; entity = f.entity; values = long_values (long_layout kind) f.contents })
+parts_unless None kind f = Ok (record {
+  tci = f.tci;
+  kind = kind;
+  entity = f.entity;
+  values = long_values (long_layout kind) f.contents;
+})
 
 abbrev pub parts_typed : Result Kind ContentsFault → Long → Result Parts LongFault
 parts_typed (Ok kind) f = parts_unless (need_of (long_layout kind) f.contents) kind f

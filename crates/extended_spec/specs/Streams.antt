@@ -22,7 +22,8 @@ any_front bytes = any_front_by (any_fault_of bytes) bytes
 
 -- the answer where so many bytes are held that show no fault, the first of them from this place
 abbrev pub any_held_bytes_fault : ℕ → ℕ → Result Unit AnyStreamFault
-any_held_bytes_fault count at = if count == 0 then Ok tt else Err (record { at = at; fault = Short count })
+any_held_bytes_fault count at = if count == 0 then Ok tt
+    else Err (record { at = at; fault = Short count })
 
 -- The answer of a reader whose stream has ended: a fault that stands, or the bytes that are held,
 -- also where they begin with a whole frame that was not taken.

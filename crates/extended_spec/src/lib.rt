@@ -1,9 +1,9 @@
 //! What an extended frame is and how its contents are laid out, and what a stream of frames of both
 //! message sets is. The crate has definitions, constants and plain types alone.
 //!
-//! The layout of extended frames is this project's profile of ITU-T G.988, clause 11.2: bytes 1 and 2
-//! TCI, byte 3 the type byte, byte 4 the device `0B`, bytes 5 to 8 class and instance, bytes 9 and 10
-//! the number of contents bytes, then the contents, then the check value of all before it.
+//! The layout of extended frames is this project's profile of ITU-T G.988, clause 11.2: bytes 1 and
+//! 2 TCI, byte 3 the type byte, byte 4 the device `0B`, bytes 5 to 8 class and instance, bytes 9
+//! and 10 the number of contents bytes, then the contents, then the check value of all before it.
 #![tactic(auto)]
 
 /// Byte 4 of an extended frame: the device identifier of the extended message set.
@@ -50,8 +50,8 @@ pub enum AnyFault {
 pub struct AnyStreamFault {
     /// The place in the stream, from 0, of the first byte held.
     pub at: u64,
-    /// What is wrong there: the fault that the bytes held show, or how many of them there are. It is
-    /// never want of memory.
+    /// What is wrong there: the fault that the bytes held show, or how many of them there are. It
+    /// is never want of memory.
     pub fault: AnyFault,
 }
 

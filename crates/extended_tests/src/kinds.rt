@@ -16,8 +16,8 @@ const ONU_G: EntityId = EntityId {
     instance: 0,
 };
 
-/// The type byte of each kind, and how many contents bytes an extended frame of it has here: all its
-/// fields, three bytes for values and for an image, and one row or one piece of two bytes.
+/// The type byte of each kind, and how many contents bytes an extended frame of it has here: all
+/// its fields, three bytes for values and for an image, and one row or one piece of two bytes.
 const KINDS: [(u8, usize); 33] = [
     (0x44, 3),
     (0x46, 0),

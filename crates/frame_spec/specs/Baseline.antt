@@ -76,10 +76,13 @@ computed_check bytes = crc (take CHECKED_BYTES bytes)
 -- matter.
 unfoldable pub fault_of : List ℕ → Option FrameFault
 fault_of bytes =
-    if nat_le 4 (length bytes) && not (slice_index bytes 3 == BASELINE_DEVICE) then Some (Device (slice_index bytes 3))
+    if nat_le 4 (length bytes)
+    && not (slice_index bytes 3 == BASELINE_DEVICE) then Some (Device (slice_index bytes 3))
     else if nat_lt (length bytes) FRAME_BYTES then Some (Short (length bytes))
-    else if not (bytes_eq (trailer_at bytes) BASELINE_TRAILER) then Some (Trailer (trailer_at bytes))
-    else if not (given_check bytes == computed_check bytes) then Some (Check (given_check bytes) (computed_check bytes))
+    else if not (bytes_eq (trailer_at bytes) BASELINE_TRAILER)
+    then Some (Trailer (trailer_at bytes))
+    else if not (given_check bytes == computed_check bytes) then Some (Check (given_check bytes)
+    (computed_check bytes))
     else None
 
 -- what decoding answers where this is the first fault of the bytes

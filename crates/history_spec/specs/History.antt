@@ -15,8 +15,8 @@ pub data Remark : Type 0 where
   Synced : (command : ℕ) (copy : Copy) → Remark
   -- in that life of the unit the get all alarms command put these alarms by, to be read row by row
   TookAlarms : (life command : ℕ) (alarms : Alarms) → Remark
-  -- an audit whose get all alarms command this is gave the manager this table; since its reply these
-  -- notices were taken, oldest first
+  -- an audit whose get all alarms command this is gave the manager this table; since its reply
+  -- these notices were taken, oldest first
   Audited : (command : ℕ) (table : Alarms) (notices : List Alarm) → Remark
   -- what the unit's store of software images has for the history
   Stored : (entry : StoreEntry) → Remark
@@ -43,7 +43,8 @@ WasCarried life command (Remarked remark ∷ older) = WasCarried life command ol
 -- at most once: no command is carried out twice in one life
 abbrev pub Once : List Entry → Type 0
 Once [] = Unit {0}
-Once (CarriedOut life command reply before ∷ older) = (WasCarried life command older → ⊥) × Once older
+Once (CarriedOut life command reply before ∷ older) = (WasCarried life command older → ⊥)
+    × Once older
 Once (TookReply command reply ∷ older) = Once older
 Once (Remarked remark ∷ older) = Once older
 
@@ -71,10 +72,13 @@ LastSnapshot command copy (Remarked (TookSnapshot life c database) ∷ older) =
     ((c ≡ command) × (without_makers database ≡ copy)) ⊎
     ((c ≢ command) × LastSnapshot command copy older)
 LastSnapshot command copy (Remarked (Synced c other) ∷ older) = LastSnapshot command copy older
-LastSnapshot command copy (Remarked (TookAlarms life c alarms) ∷ older) = LastSnapshot command copy older
-LastSnapshot command copy (Remarked (Audited c table notices) ∷ older) = LastSnapshot command copy older
+LastSnapshot command copy (Remarked (TookAlarms life c alarms) ∷ older) =
+    LastSnapshot command copy older
+LastSnapshot command copy (Remarked (Audited c table notices) ∷ older) =
+    LastSnapshot command copy older
 LastSnapshot command copy (Remarked (Stored entry) ∷ older) = LastSnapshot command copy older
-LastSnapshot command copy (Remarked (Downloaded slot image) ∷ older) = LastSnapshot command copy older
+LastSnapshot command copy (Remarked (Downloaded slot image) ∷ older) =
+    LastSnapshot command copy older
 
 -- synchronised right: the copy of each resynchronisation is what its upload command put by last
 abbrev pub SyncedRight : List Entry → Type 0
@@ -93,20 +97,25 @@ SyncedRight (Remarked (Synced command copy) ∷ older) =
 -- this table
 abbrev pub LastAlarms : ℕ → List Alarm → Alarms → List Entry → Type 0
 LastAlarms command notices table [] = ⊥
-LastAlarms command notices table (CarriedOut life c r before ∷ older) = LastAlarms command notices table older
+LastAlarms command notices table (CarriedOut life c r before ∷ older) =
+    LastAlarms command notices table older
 LastAlarms command notices table (TookReply c r ∷ older) = LastAlarms command notices table older
 LastAlarms command notices table (Remarked (TookSnapshot life c database) ∷ older) =
     LastAlarms command notices table older
-LastAlarms command notices table (Remarked (Synced c other) ∷ older) = LastAlarms command notices table older
+LastAlarms command notices table (Remarked (Synced c other) ∷ older) =
+    LastAlarms command notices table older
 LastAlarms command notices table (Remarked (TookAlarms life c alarms) ∷ older) =
     ((c ≡ command) × (after alarms notices ≡ table)) ⊎
     ((c ≢ command) × LastAlarms command notices table older)
-LastAlarms command notices table (Remarked (Audited c t waited) ∷ older) = LastAlarms command notices table older
-LastAlarms command notices table (Remarked (Stored entry) ∷ older) = LastAlarms command notices table older
-LastAlarms command notices table (Remarked (Downloaded slot image) ∷ older) = LastAlarms command notices table older
+LastAlarms command notices table (Remarked (Audited c t waited) ∷ older) =
+    LastAlarms command notices table older
+LastAlarms command notices table (Remarked (Stored entry) ∷ older) =
+    LastAlarms command notices table older
+LastAlarms command notices table (Remarked (Downloaded slot image) ∷ older) =
+    LastAlarms command notices table older
 
--- audited right: the table of each audit is what its get all alarms command put by last, followed by
--- the notices that were taken since its reply
+-- audited right: the table of each audit is what its get all alarms command put by last, followed
+-- by the notices that were taken since its reply
 abbrev pub AuditedRight : List Entry → Type 0
 AuditedRight [] = Unit {0}
 AuditedRight (CarriedOut life command reply before ∷ older) = AuditedRight older
@@ -124,7 +133,8 @@ abbrev pub LastChecked : ℕ → List ℕ → List Entry → Type 0
 LastChecked slot image [] = ⊥
 LastChecked slot image (CarriedOut life c r before ∷ older) = LastChecked slot image older
 LastChecked slot image (TookReply c r ∷ older) = LastChecked slot image older
-LastChecked slot image (Remarked (TookSnapshot life c database) ∷ older) = LastChecked slot image older
+LastChecked slot image (Remarked (TookSnapshot life c database) ∷ older) =
+    LastChecked slot image older
 LastChecked slot image (Remarked (Synced c copy) ∷ older) = LastChecked slot image older
 LastChecked slot image (Remarked (TookAlarms life c alarms) ∷ older) = LastChecked slot image older
 LastChecked slot image (Remarked (Audited c table notices) ∷ older) = LastChecked slot image older

@@ -34,7 +34,8 @@ unfoldable pub windows_sent : Script
 windows_sent = record {
   header = header;
   actions =
-      Probe Low ∷ Flow 2 ∷ Image 1 2 None image ∷ Flow 1 ∷ Flow 1 ∷ Flow 3 ∷ Deliver 5 ∷ Flow 100 ∷ [];
+      Probe Low ∷ Flow 2 ∷ Image 1 2 None image ∷ Flow 1 ∷ Flow 1 ∷ Flow 3 ∷ Deliver 5 ∷ Flow 100
+      ∷ [];
 }
 
 unfoldable pub windows_sent_trace : List ℕ
@@ -69,7 +70,8 @@ unfoldable pub wrong_check : Script
 wrong_check = record {
   header = header;
   actions =
-      Probe Low ∷ Flow 2 ∷ Image 1 1 (Some 0) two_bytes ∷ Flow 100 ∷ Commit Low 1 ∷ Flow 2 ∷ CutUnit ∷ StartUnit ∷ [];
+      Probe Low ∷ Flow 2 ∷ Image 1 1 (Some 0) two_bytes ∷ Flow 100 ∷ Commit Low 1 ∷ Flow 2 ∷ CutUnit
+      ∷ StartUnit ∷ [];
 }
 
 unfoldable pub wrong_check_trace : List ℕ
@@ -100,7 +102,8 @@ unfoldable pub cut_before : Script
 cut_before = record {
   header = header;
   actions =
-      Probe Low ∷ Flow 2 ∷ Image 1 1 None two_bytes ∷ Flow 100 ∷ Commit Low 1 ∷ CutIn 8 1 Old ∷ StartUnit ∷ [];
+      Probe Low ∷ Flow 2 ∷ Image 1 1 None two_bytes ∷ Flow 100 ∷ Commit Low 1 ∷ CutIn 8 1 Old
+      ∷ StartUnit ∷ [];
 }
 
 unfoldable pub cut_before_trace : List ℕ
@@ -130,7 +133,8 @@ unfoldable pub cut_behind : Script
 cut_behind = record {
   header = header;
   actions =
-      Probe Low ∷ Flow 2 ∷ Image 1 1 None two_bytes ∷ Flow 100 ∷ Commit Low 1 ∷ CutIn 8 1 New ∷ StartUnit ∷ [];
+      Probe Low ∷ Flow 2 ∷ Image 1 1 None two_bytes ∷ Flow 100 ∷ Commit Low 1 ∷ CutIn 8 1 New
+      ∷ StartUnit ∷ [];
 }
 
 unfoldable pub cut_behind_trace : List ℕ
@@ -160,7 +164,8 @@ unfoldable pub cut_after : Script
 cut_after = record {
   header = header;
   actions =
-      Probe Low ∷ Flow 2 ∷ Image 1 1 None two_bytes ∷ Flow 100 ∷ Commit Low 1 ∷ CutIn 8 3 Old ∷ StartUnit ∷ [];
+      Probe Low ∷ Flow 2 ∷ Image 1 1 None two_bytes ∷ Flow 100 ∷ Commit Low 1 ∷ CutIn 8 3 Old
+      ∷ StartUnit ∷ [];
 }
 
 unfoldable pub cut_after_trace : List ℕ
@@ -190,7 +195,8 @@ unfoldable pub cut_to_byte : Script
 cut_to_byte = record {
   header = header;
   actions =
-      Probe Low ∷ Flow 2 ∷ Image 1 1 None two_bytes ∷ Flow 100 ∷ Commit Low 1 ∷ CutIn 8 1 (Byte 164) ∷ StartUnit ∷ [];
+      Probe Low ∷ Flow 2 ∷ Image 1 1 None two_bytes ∷ Flow 100 ∷ Commit Low 1 ∷ CutIn 8 1 (Byte 164)
+      ∷ StartUnit ∷ [];
 }
 
 unfoldable pub cut_to_byte_trace : List ℕ
@@ -220,7 +226,8 @@ unfoldable pub committed_and_cut : Script
 committed_and_cut = record {
   header = header;
   actions =
-      Probe Low ∷ Flow 2 ∷ Image 1 1 None two_bytes ∷ Flow 100 ∷ Commit Low 1 ∷ Flow 2 ∷ CutUnit ∷ StartUnit ∷ [];
+      Probe Low ∷ Flow 2 ∷ Image 1 1 None two_bytes ∷ Flow 100 ∷ Commit Low 1 ∷ Flow 2 ∷ CutUnit
+      ∷ StartUnit ∷ [];
 }
 
 unfoldable pub committed_and_cut_trace : List ℕ
@@ -253,7 +260,9 @@ unfoldable pub activated : Script
 activated = record {
   header = header;
   actions =
-      Probe Low ∷ Flow 2 ∷ Image 1 1 None two_bytes ∷ Flow 100 ∷ Activate Low 1 ∷ Flow 2 ∷ Get Low onu_data 32768 ∷ Deliver 10 ∷ Tick ∷ Tick ∷ Tick ∷ Flow 2 ∷ CutUnit ∷ StartUnit ∷ [];
+      Probe Low ∷ Flow 2 ∷ Image 1 1 None two_bytes ∷ Flow 100 ∷ Activate Low 1 ∷ Flow 2
+      ∷ Get Low onu_data 32768 ∷ Deliver 10 ∷ Tick ∷ Tick ∷ Tick ∷ Flow 2 ∷ CutUnit ∷ StartUnit
+      ∷ [];
 }
 
 unfoldable pub activated_trace : List ℕ

@@ -33,15 +33,18 @@ commit_faults (Err (commit.NotValid slots)) = false
 commit_faults (Err (commit.Fault broken)) = true
 
 abbrev pub CommitRefused : {D : Type 0} → Slots D → ℕ → CommitRefusal D → Type 0
-CommitRefused before slot (commit.NotValid slots) = (slots ≡ before) × (view_at slot before.header ≡ None)
-CommitRefused before slot (commit.Fault broken) = IsSome (view_at slot before.header) × (slot ≡ before.header.committed → ⊥)
+CommitRefused before slot (commit.NotValid slots) = (slots ≡ before)
+    × (view_at slot before.header ≡ None)
+CommitRefused before slot (commit.Fault broken) = IsSome (view_at slot before.header)
+    × (slot ≡ before.header.committed → ⊥)
 
 -- the slot is valid and isn't the committed one, so that its commit writes
 abbrev pub commit_writes : ℕ → DiskHeader → Bool
 commit_writes slot header = is_some (view_at slot header) && not (slot == header.committed)
 
 abbrev pub commit_calls : ℕ → DiskHeader → List Call
-commit_calls slot header = if commit_writes slot header then Write commit_place (slot ∷ []) ∷ Sync ∷ [] else []
+commit_calls slot header = if commit_writes slot header then Write commit_place (slot ∷ []) ∷ Sync
+    ∷ [] else []
 
 abbrev pub commit_change : ℕ → DiskHeader → Change
 commit_change slot header = if commit_writes slot header then Commit slot else Keep
@@ -60,19 +63,25 @@ begin_faults (Err (begin.Size slots size room)) = false
 begin_faults (Err (begin.Fault broken)) = true
 
 abbrev pub BeginRefused : {D : Type 0} → Slots D → ℕ → ℕ → BeginRefusal D → Type 0
-BeginRefused before slot asked (begin.InUse slots) = (slots ≡ before) × (slot ≡ before.header.committed)
-BeginRefused before slot asked (begin.Size slots size room) = (slots ≡ before) × (size ≡ asked) × (room ≡ before.header.room) × ((asked ≡ 0) ⊎ (room < asked)) × (slot ≡ before.header.committed → ⊥)
-BeginRefused before slot asked (begin.Fault broken) = (slot ≡ before.header.committed → ⊥) × (1 ≤ asked) × (asked ≤ before.header.room)
+BeginRefused before slot asked (begin.InUse slots) = (slots ≡ before)
+    × (slot ≡ before.header.committed)
+BeginRefused before slot asked (begin.Size slots size room) = (slots ≡ before) × (size ≡ asked)
+    × (room ≡ before.header.room) × ((asked ≡ 0) ⊎ (room < asked))
+    × (slot ≡ before.header.committed → ⊥)
+BeginRefused before slot asked (begin.Fault broken) = (slot ≡ before.header.committed → ⊥)
+    × (1 ≤ asked) × (asked ≤ before.header.room)
 
 abbrev pub begin_tests : ℕ → ℕ → DiskHeader → Bool
-begin_tests slot size header = not (slot == header.committed) && (nat_le 1 size && nat_le size header.room)
+begin_tests slot size header = not (slot == header.committed)
+    && (nat_le 1 size && nat_le size header.room)
 
 -- a gate that is closed already isn't written
 abbrev pub begin_writes : ℕ → ℕ → DiskHeader → Bool
 begin_writes slot size header = begin_tests slot size header && (slot_header slot header).opened
 
 abbrev pub begin_calls : ℕ → ℕ → DiskHeader → List Call
-begin_calls slot size header = if begin_writes slot size header then Write (gate_place slot) (CLOSED_GATE ∷ []) ∷ Sync ∷ [] else []
+begin_calls slot size header = if begin_writes slot size header then Write (gate_place slot)
+    (CLOSED_GATE ∷ []) ∷ Sync ∷ [] else []
 
 abbrev pub begin_change : ℕ → ℕ → DiskHeader → Change
 begin_change slot size header = if begin_writes slot size header then Clear slot else Keep
@@ -105,12 +114,15 @@ put_faults (Err (put.Past download have size more)) = false
 put_faults (Err (put.Fault broken)) = true
 
 abbrev pub PutRefused : {D : Type 0} → Download D → ℕ → PutRefusal D → Type 0
-PutRefused before asked (put.Past download have size more) = (download ≡ before) × (have ≡ before.have) × (size ≡ before.size) × (more ≡ asked) × (before.size < before.have + asked)
+PutRefused before asked (put.Past download have size more) = (download ≡ before)
+    × (have ≡ before.have) × (size ≡ before.size) × (more ≡ asked)
+    × (before.size < before.have + asked)
 PutRefused before asked (put.Fault broken) = before.have + asked ≤ before.size
 
 -- the piece follows what was put
 abbrev pub put_calls : List ℕ → ℕ → ℕ → ℕ → ℕ → List Call
-put_calls piece room target have size = if nat_le (have + length piece) size then Write (image_place room target + have) piece ∷ [] else []
+put_calls piece room target have size = if nat_le (have + length piece) size then Write
+    (image_place room target + have) piece ∷ [] else []
 
 -- SEAL
 abbrev pub seal_disk : {D : Type 0} → Result (Slots D) (SealRefusal D) → D
@@ -130,9 +142,14 @@ abbrev pub GivesBack : {D : Type 0} → Download D → Slots D → Type 0
 GivesBack before slots = (slots.disk ≡ before.disk) × (slots.header ≡ before.header)
 
 abbrev pub SealRefused : {D : Type 0} → Download D → ℕ → ℕ → SealRefusal D → Type 0
-SealRefused before check asked (seal.Size slots have given) = GivesBack before slots × (have ≡ before.have) × (given ≡ asked) × ((before.have ≡ before.size) → (asked ≡ before.have) → ⊥)
-SealRefused before check asked (seal.Check slots computed given) = GivesBack before slots × (computed ≡ before.crc) × (given ≡ check) × (computed ≡ given → ⊥) × (before.have ≡ before.size) × (asked ≡ before.have)
-SealRefused before check asked (seal.Fault broken) = (before.have ≡ before.size) × (asked ≡ before.have) × (check ≡ before.crc)
+SealRefused before check asked (seal.Size slots have given) = GivesBack before slots
+    × (have ≡ before.have) × (given ≡ asked) × ((before.have ≡ before.size) → (asked ≡ before.have)
+    → ⊥)
+SealRefused before check asked (seal.Check slots computed given) = GivesBack before slots
+    × (computed ≡ before.crc) × (given ≡ check) × (computed ≡ given → ⊥)
+    × (before.have ≡ before.size) × (asked ≡ before.have)
+SealRefused before check asked (seal.Fault broken) = (before.have ≡ before.size)
+    × (asked ≡ before.have) × (check ≡ before.crc)
 
 abbrev pub IsSealFault : {D : Type 0} → SealRefusal D → Type 0
 IsSealFault (seal.Fault broken) = Unit {0}
@@ -148,8 +165,10 @@ seal_tests check given have size computed = (have == size && given == have) && c
 abbrev pub seal_calls : ℕ → ℕ → ℕ → ℕ → ℕ → ℕ → List ℕ → List Call
 seal_calls check given target have size computed first =
     if seal_tests check given have size computed then
-    (Write (entry_place target) (to_be_bytes w32 given ++ to_be_bytes w32 check ++ first) ∷ Sync ∷ []) ++ (Write (gate_place target) (open_gate ∷ []) ∷ Sync ∷ [])
+    (Write (entry_place target) (to_be_bytes w32 given ++ to_be_bytes w32 check ++ first) ∷ Sync
+    ∷ []) ++ (Write (gate_place target) (open_gate ∷ []) ∷ Sync ∷ [])
     else []
 
 abbrev pub seal_change : ℕ → ℕ → ℕ → ℕ → ℕ → ℕ → List ℕ → Change
-seal_change check given target have size computed put = if seal_tests check given have size computed then Seal target put else Keep
+seal_change check given target have size computed put =
+    if seal_tests check given have size computed then Seal target put else Keep

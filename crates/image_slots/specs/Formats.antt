@@ -35,7 +35,8 @@ pub record Formatted (room : ℕ) (entry_of image was bytes : List ℕ) : Type 0
   pub body : FormattedBody room entry_of image was bytes
 
 -- a disk that reads so, and that each crash leaves so
-pub record FormattedDisk {D : Type 0} (seen : D → Option (List ℕ)) (may_leave : D → List ℕ → Type 0) (room : ℕ) (entry_of image was : List ℕ) (disk : D) : Type 0 where
+pub record FormattedDisk {D : Type 0} (seen : D → Option (List ℕ)) (may_leave : D → List ℕ → Type 0)
+    (room : ℕ) (entry_of image was : List ℕ) (disk : D) : Type 0 where
   pub now : List ℕ
   pub reads : seen disk ≡ Some now
   pub formatted : Formatted room entry_of image was now
@@ -52,22 +53,27 @@ format_faults (Err (Size disk size room)) = false
 format_faults (Err (Fault disk)) = true
 
 abbrev pub FormatRefused : {D : Type 0} → D → ℕ → ℕ → FormatRefusal D → Type 0
-FormatRefused before space asked (Size disk size room) = (disk ≡ before) × (size ≡ asked) × (room ≡ space) × ((asked ≡ 0) ⊎ (space < asked))
+FormatRefused before space asked (Size disk size room) = (disk ≡ before) × (size ≡ asked)
+    × (room ≡ space) × ((asked ≡ 0) ⊎ (space < asked))
 FormatRefused before space asked (Fault disk) = (1 ≤ asked) × (asked ≤ space)
 
 -- the writes behind the magic
 abbrev pub body_calls : ℕ → List ℕ → List ℕ → List Call
 body_calls room entry_of image =
-    Write ROOM_PLACE (to_be_bytes w32 room) ∷ Write commit_place (0 ∷ []) ∷ Write (gate_place 0) (open_gate ∷ []) ∷ Write (gate_place 1) (CLOSED_GATE ∷ []) ∷ Write (entry_place 0) entry_of
+    Write ROOM_PLACE (to_be_bytes w32 room) ∷ Write commit_place (0 ∷ [])
+    ∷ Write (gate_place 0) (open_gate ∷ []) ∷ Write (gate_place 1) (CLOSED_GATE ∷ [])
+    ∷ Write (entry_place 0) entry_of
     ∷ Write (image_place room 0) image ∷ Write (HEADER_BYTES + 2 * room - 1) (0 ∷ []) ∷ []
 
 -- the magic is taken away, and stands again last
 abbrev pub layout_calls : ℕ → List ℕ → List ℕ → List Call
-layout_calls room entry_of image = (Write 0 (replicate 8 0) ∷ Sync ∷ []) ++ (body_calls room entry_of image ++ ((Sync ∷ []) ++ (Write 0 magic ∷ Sync ∷ [])))
+layout_calls room entry_of image = (Write 0 (replicate 8 0) ∷ Sync ∷ [])
+    ++ (body_calls room entry_of image ++ ((Sync ∷ []) ++ (Write 0 magic ∷ Sync ∷ [])))
 
 -- an image that doesn't fit makes no device call
 abbrev pub format_calls : ℕ → List ℕ → List Call
-format_calls room image = if nat_le 1 (length image) && nat_le (length image) room then layout_calls room (entry image) image else []
+format_calls room image = if nat_le 1 (length image)
+    && nat_le (length image) room then layout_calls room (entry image) image else []
 
 -- over a rig: what the disk reads as and what a cut with each pick would leave stand for the slots,
 -- each open gate has an image, and where there was no trap there is none

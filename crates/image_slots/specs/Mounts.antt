@@ -28,20 +28,26 @@ mount_calls size = if nat_lt size HEADER_BYTES then [] else Sync ∷ Read 0 HEAD
 
 -- what was found in bytes that begin so: slots, whose committed one is valid
 abbrev pub MountFinds : {D : Type 0} → ℕ → List ℕ → Slots D → Type 0
-MountFinds size bytes slots = (has_unit size bytes ≡ true) × (slots.header ≡ disk_header_in bytes) × IsSome (view_at slots.header.committed slots.header)
+MountFinds size bytes slots = (has_unit size bytes ≡ true) × (slots.header ≡ disk_header_in bytes)
+    × IsSome (view_at slots.header.committed slots.header)
 
 -- a refusal of a disk that has a header
 abbrev pub HeadRefused : {D : Type 0} → ℕ → List ℕ → MountRefusal D → Type 0
-HeadRefused size bytes (NoUnit disk length magic room) = (has_unit size bytes ≡ false) × (length ≡ size) × (magic ≡ field 0 8 bytes) × (room ≡ number_at ROOM_PLACE bytes)
+HeadRefused size bytes (NoUnit disk length magic room) = (has_unit size bytes ≡ false)
+    × (length ≡ size) × (magic ≡ field 0 8 bytes) × (room ≡ number_at ROOM_PLACE bytes)
 HeadRefused size bytes (Fault disk) = ⊥
 HeadRefused size bytes (NoImage disk slot gate given) =
-    (has_unit size bytes ≡ true) × (slot ≡ (disk_header_in bytes).committed) × (view_at slot (disk_header_in bytes) ≡ None) × (gate ≡ get_or bytes (gate_place slot) 0) × (given ≡ number_at (entry_place slot) bytes)
+    (has_unit size bytes ≡ true) × (slot ≡ (disk_header_in bytes).committed)
+    × (view_at slot (disk_header_in bytes) ≡ None) × (gate ≡ get_or bytes (gate_place slot) 0)
+    × (given ≡ number_at (entry_place slot) bytes)
 
 -- the refusal of a disk of at least 4,096 bytes, or a fault
 abbrev pub MountRefused : {D : Type 0} → ℕ → List ℕ → MountRefusal D → Type 0
-MountRefused size bytes (NoUnit disk length magic room) = HeadRefused size bytes (NoUnit disk length magic room)
+MountRefused size bytes (NoUnit disk length magic room) =
+    HeadRefused size bytes (NoUnit disk length magic room)
 MountRefused size bytes (Fault disk) = Unit {0}
-MountRefused size bytes (NoImage disk slot gate given) = HeadRefused size bytes (NoImage disk slot gate given)
+MountRefused size bytes (NoImage disk slot gate given) =
+    HeadRefused size bytes (NoImage disk slot gate given)
 
 abbrev pub IsMountFault : {D : Type 0} → MountRefusal D → Type 0
 IsMountFault (Fault disk) = Unit {0}

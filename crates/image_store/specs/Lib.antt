@@ -1,3 +1,4 @@
 pub mod Carries
+pub mod Counts
 pub mod Stands
 pub mod Starts

@@ -7,6 +7,8 @@ ghost use Rattle.store_spec.specs.Deeds.{commit_deed};
 ghost use Rattle.image_store.specs.Stands.{state_disk, state_broken, SlotsStand, LoadingStands};
 ghost use Rattle.image_store.specs.Stands.{StateStands};
 ghost use Rattle.image_store.specs.Carries.{Carried};
+ghost use Rattle.image_store.specs.Counts.{StateCounts};
+ghost use Rattle.image_store.specs.declared.state.State.TheVariants.{Whole, Filling};
 
 use crate::state::{Done, State, carried, download_software, refused, slots_software};
 use image_slots::{CommitRefusal, Download, SealRefusal, Slots};
@@ -21,6 +23,7 @@ pub(crate) fn end<D: Disk>(state: State<D>, active: u8, slot: u8, check: u32, si
         → Carried D.seen D.may_leave D.clock D.left_since D.rig D.faults room active granted held
         (state_disk state) result (on_download Refuse slot m.download
         (λ l. seal_deed check size l)) m }
+    ensures count { StateCounts D.faults state result.state }
 {
     match state {
         State::Filling { download } => {
@@ -51,6 +54,7 @@ fn seal<D: Disk>(download: Download<D>, active: u8, check: u32, size: u32) -> Do
         → Carried D.seen D.may_leave D.clock D.left_since D.rig D.faults room active granted held
         download.disk result (seal_deed check size
         (loading_of download.target download.size granted l.put held)) m }
+    ensures count { StateCounts D.faults (Filling download) result.state }
 {
     let software = download_software(&download, active);
     match download.seal(check, size) {
@@ -80,6 +84,7 @@ pub(crate) fn activate<D: Disk>(state: State<D>, active: u8, slot: u8) -> Done<D
         → StateStands D.seen D.may_leave room active granted held state m → m.broken ≡ false
         → Carried D.seen D.may_leave D.clock D.left_since D.rig D.faults room active granted held
         (state_disk state) result (activate_deed slot m) m }
+    ensures count { StateCounts D.faults state result.state }
 {
     if has_image(&state, slot) {
         let handled = Handled::Answered {
@@ -117,6 +122,7 @@ pub(crate) fn commit<D: Disk>(state: State<D>, active: u8, slot: u8) -> Done<D>
         → StateStands D.seen D.may_leave room active granted held state m → m.broken ≡ false
         → Carried D.seen D.may_leave D.clock D.left_since D.rig D.faults room active granted held
         (state_disk state) result (commit_deed slot m.slots) m }
+    ensures count { StateCounts D.faults state result.state }
 {
     match state {
         State::Whole { slots } => keep(slots, active, slot),
@@ -147,6 +153,7 @@ fn keep<D: Disk>(slots: Slots<D>, active: u8, slot: u8) -> Done<D>
         → SlotsStand D.seen D.may_leave room active slots m → m.download ≡ None
         → Carried D.seen D.may_leave D.clock D.left_since D.rig D.faults room active granted held
         slots.disk result (commit_deed slot m.slots) m }
+    ensures count { StateCounts D.faults (Whole slots) result.state }
 {
     let software = slots_software(&slots, active);
     match slots.commit(slot) {

@@ -9,10 +9,12 @@ ghost use Rattle.store_spec.specs.Deeds.{put_deed, hold_deed};
 ghost use Rattle.image_store.specs.Stands.{state_disk, state_broken, SlotsStand, LoadingStands};
 ghost use Rattle.image_store.specs.Stands.{StateStands};
 ghost use Rattle.image_store.specs.Carries.{Carried};
+ghost use Rattle.image_store.specs.Counts.{StateCounts};
+ghost use Rattle.image_store.specs.declared.state.State.TheVariants.{Whole, Filling};
 
 use crate::coming::Coming;
+use crate::conditions::{is_in_use, start_test, window_test};
 use crate::state::{Base, Done, State, carried, download_software, refused, slots_software};
-use crate::tests::{is_in_use, start_test, window_test};
 use image_slots::{BeginRefusal, Download, PutRefusal, Slots};
 use omci_types::Code;
 use slot_disk::Disk;
@@ -43,6 +45,7 @@ pub(crate) fn start<D: Disk>(
         → Carried D.seen D.may_leave D.clock D.left_since D.rig D.faults base.room base.active
         coming.new.granted coming.new.inbox (state_disk state) result
         (start_deed base.room slot asked.window asked.size asked.targets m) m }
+    ensures count { StateCounts D.faults state result.state }
 {
     let in_use = is_in_use(slot, base.active, committed(&state));
     match start_test(in_use, base.room, asked.targets, asked.size) {
@@ -65,6 +68,7 @@ fn begin_over<D: Disk>(state: State<D>, active: u8, slot: u8, size: u32) -> Done
         → slot ≢ m.slots.committed → 1 ≤ size → size ≤ room
         → Carried D.seen D.may_leave D.clock D.left_since D.rig D.faults room active next no_window
         (state_disk state) result (Begin slot size next) m }
+    ensures count { StateCounts D.faults state result.state }
 {
     match state {
         State::Whole { slots } => begin(slots, active, slot, size),
@@ -96,6 +100,7 @@ fn begin<D: Disk>(slots: Slots<D>, active: u8, slot: u8, size: u32) -> Done<D>
         → SlotsStand D.seen D.may_leave room active slots m → slot ≢ m.slots.committed → 1 ≤ size
         → size ≤ room → Carried D.seen D.may_leave D.clock D.left_since D.rig D.faults room active
         granted no_window slots.disk result (Begin slot size granted) m }
+    ensures count { StateCounts D.faults (Whole slots) result.state }
 {
     let software = slots_software(&slots, active);
     match slots.begin(slot, size) {
@@ -135,6 +140,7 @@ pub(crate) fn section<D: Disk>(
         → Carried D.seen D.may_leave D.clock D.left_since D.rig D.faults room active
         coming.new.granted coming.new.inbox (state_disk state) result (on_download
         RefuseWindow slot m.download (λ l. put_deed (arriving tci number bytes.now) l)) m }
+    ensures count { StateCounts D.faults state result.state }
 {
     let arrived = coming.inbox.section(tci, number, bytes, true);
     let done = window(
@@ -164,6 +170,7 @@ fn window<D: Disk>(
         → Carried D.seen D.may_leave D.clock D.left_since D.rig D.faults room active granted
         no_window (state_disk state) result (on_download RefuseWindow slot m.download
         (λ l. put_deed s l)) m }
+    ensures count { StateCounts D.faults state result.state }
 {
     match state {
         State::Filling { download } => {
@@ -201,6 +208,7 @@ fn put<D: Disk>(
         → Carried D.seen D.may_leave D.clock D.left_since D.rig D.faults room active granted
         no_window download.disk result (put_deed s
         (loading_of download.target download.size granted l.put held)) m }
+    ensures count { StateCounts D.faults (Filling download) result.state }
 {
     match window_test(granted, download.size(), download.have(), arrived) {
         Ok(()) => {
@@ -221,6 +229,7 @@ fn put_piece<D: Disk>(download: Download<D>, active: u8, piece: &[u8]) -> Done<D
         → download.have + length piece.now ≤ download.size
         → Carried D.seen D.may_leave D.clock D.left_since D.rig D.faults room active granted
         no_window download.disk result (Put (l.put ++ piece.now)) m }
+    ensures count { StateCounts D.faults (Filling download) result.state }
 {
     let software = download_software(&download, active);
     match download.put(piece) {
@@ -265,6 +274,7 @@ pub(crate) fn hold<D: Disk>(
         → Carried D.seen D.may_leave D.clock D.left_since D.rig D.faults room active
         coming.new.granted coming.new.inbox (state_disk state) result
         (on_download ignore slot m.download (λ l. hold_deed (arriving tci number bytes.now) l)) m }
+    ensures count { StateCounts D.faults state result.state }
 {
     match state {
         State::Filling { download } => {
@@ -302,6 +312,7 @@ fn hold_for<D: Disk>(
         coming.new.granted coming.new.inbox download.disk result (hold_deed
         (arriving tci number bytes.now)
         (loading_of download.target download.size coming.old.granted l.put coming.old.inbox)) m }
+    ensures count { StateCounts D.faults (Filling download) result.state }
 {
     match coming.inbox.section(tci, number, bytes, false) {
         Arrived::Held => Done {

@@ -8,12 +8,13 @@ ghost use Rattle.store_spec.specs.Effects.{handled_done};
 ghost use Rattle.image_store.specs.Stands.{state_disk, state_broken, SlotsStand, LoadingStands};
 ghost use Rattle.image_store.specs.Stands.{StateStands};
 ghost use Rattle.image_store.specs.Carries.{Carried};
+ghost use Rattle.image_store.specs.Counts.{StateCounts};
 
 use crate::coming::Coming;
+use crate::conditions::image_slot;
 use crate::finish::{activate, commit, end};
 use crate::load::{Asked, hold, section, start};
 use crate::state::{Base, Done, State, refused};
-use crate::tests::image_slot;
 use message_spec::Request;
 use omci_types::{Code, EntityId};
 use slot_disk::Disk;
@@ -33,6 +34,7 @@ pub(crate) fn carry<D: Disk>(
         state m → Carried D.seen D.may_leave D.clock D.left_since D.rig D.faults base.room
         base.active coming.new.granted coming.new.inbox (state_disk state) result
         (deed base.room tci entity request.now m) m }
+    ensures count { StateCounts D.faults state result.state }
 {
     match image_slot(entity, is_broken(&state)) {
         Ok(slot) => carry_for(state, coming, base, tci, slot, request),
@@ -69,6 +71,7 @@ fn carry_for<D: Disk>(
         → Carried D.seen D.may_leave D.clock D.left_since D.rig D.faults base.room base.active
         coming.new.granted coming.new.inbox (state_disk state) result
         (slot_deed base.room tci slot request.now m) m }
+    ensures count { StateCounts D.faults state result.state }
 {
     match request {
         Request::Start {
@@ -117,6 +120,7 @@ fn ignored<D: Disk>(state: State<D>) -> Done<D>
         → StateStands D.seen D.may_leave room active granted held state m
         → Carried D.seen D.may_leave D.clock D.left_since D.rig D.faults room active granted held
         (state_disk state) result Ignore m }
+    ensures count { StateCounts D.faults state result.state }
 {
     Done {
         state,

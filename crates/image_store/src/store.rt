@@ -15,7 +15,8 @@ ghost use Rattle.store_spec.specs.Deeds.{deed};
 ghost use Rattle.image_store.specs.declared.state.State.{State};
 ghost use Rattle.image_store.specs.Stands.{StateStands, StoreStands, state_disk};
 ghost use Rattle.image_store.specs.declared.state.State.TheVariants.{Whole};
-ghost use Rattle.image_store.specs.Carries.{StoreCarried};
+ghost use Rattle.image_store.specs.Carries.{Caused, StoreCarried};
+ghost use Rattle.image_store.specs.Counts.{StoreCounts, store_faults};
 ghost use Rattle.image_store.specs.Starts.{Started, IsUnit, refusal_disk, refusal_faults};
 
 use crate::coming::Coming;
@@ -43,14 +44,20 @@ impl<D: Disk> Model for Store<D> {
 
     ghost Value = { Kept D };
 
-    ghost view = { λ s. record { state = s.state; granted = s.coming.granted; window = s.coming.inbox; room = s.base.room; active = s.base.active } };
+    ghost view = { λ s. record {
+      state = s.state;
+      granted = s.coming.granted;
+      window = s.coming.inbox;
+      room = s.base.room;
+      active = s.base.active;
+    } };
 
     ghost invariant = { λ s. record { some : IsSome s.state; active : s.base.active < 2 } };
 }
 
 impl<D: Disk> Store<D> {
-    /// Takes the slots of a disk that has so many bytes, by [`Slots::mount`]. The active slot is the
-    /// activated one where that has an image, and else the committed one.
+    /// Takes the slots of a disk that has so many bytes, by [`Slots::mount`]. The active slot is
+    /// the activated one where that has an image, and else the committed one.
     pub fn start(disk: D, size: u64, boot: Boot) -> Result<Store<D>, MountRefusal<D>>
         ensures stands { (room : ℕ) (s : SlotPair) (bytes : List ℕ) → D.seen disk ≡ Some bytes
             → size ≡ length bytes → StandsAt room bytes s
@@ -69,6 +76,10 @@ impl<D: Disk> Store<D> {
             → OnOk result (IsUnit size bytes) }
         ensures refused { (bytes : List ℕ) → D.seen disk ≡ Some bytes → 4096 ≤ size
             → IfErr result (MountRefused size bytes) }
+        ensures count { MatchResult result
+            (λ store. store_faults D.faults store ≡ D.faults disk)
+            (λ refusal. Caused (refusal_faults refusal) (D.faults disk)
+            (D.faults (refusal_disk refusal))) }
     {
         match Slots::mount(disk, size) {
             Ok(slots) => Ok(opened(slots, boot)),
@@ -77,13 +88,15 @@ impl<D: Disk> Store<D> {
     }
 
     /// Takes a request of this TCI for this entity, whose instance is the slot, and says what was
-    /// done with it. A request that is answered by a code may have made one call of the disk's slots.
+    /// done with it. A request that is answered by a code may have made one call of the disk's
+    /// slots.
     pub fn carry(&mut self, tci: u16, entity: EntityId, request: &Request) -> Handled
         ensures carried { (m : StoreState) → StoreStands D.seen D.may_leave self.old m
             → StoreCarried D.seen D.may_leave D.clock D.left_since D.rig D.faults self.old self.new
             result (deed self.old.room tci entity request.now m) m }
         ensures room { self.new.room ≡ self.old.room }
         ensures active { self.new.active ≡ self.old.active }
+        ensures count { StoreCounts D.faults self.old self.new }
     {
         let state = self.state.take().unwrap();
         let done = carry(state, &mut self.coming, self.base, tci, entity, request);
@@ -105,6 +118,7 @@ impl<D: Disk> Store<D> {
     pub fn unmount(self) -> D
         ensures some { IsSome self.state }
         ensures disk { (state : State D) → self.state ≡ Some state → result ≡ state_disk state }
+        ensures count { D.faults result ≡ store_faults D.faults self }
     {
         unmount_state(self.state.unwrap())
     }
@@ -120,6 +134,7 @@ impl<D: Rig> Store<D> {
             → self.new.state ≡ Some new → D.rig (state_disk old) ≡ Some r
             → D.rig (state_disk new) ≡ Some (record r { trap = trap }) }
         ensures same { self.new ≡ record self.old { state = self.new.state } }
+        ensures count { store_faults D.faults self.new ≡ store_faults D.faults self.old }
     {
         let state = self.state.take().unwrap();
         self.state = Some(rig_state(state, trap));
@@ -193,6 +208,7 @@ fn rig_state<D: Rig>(state: State<D>, trap: Trap) -> State<D>
         → StateStands D.seen D.may_leave room active granted window result m }
     ensures trap { (r : Rigged) → D.rig (state_disk state) ≡ Some r → D.rig (state_disk result)
         ≡ Some (record r { trap = trap }) }
+    ensures count { D.faults (state_disk result) ≡ D.faults (state_disk state) }
 {
     match state {
         State::Whole { slots } => {

@@ -1,4 +1,5 @@
--- A command: a request of the manager to an entity, with the packet that it sends under a TCI and the frames that answer it.
+-- A command: a request of the manager to an entity, with the packet that it sends under a TCI and
+-- the frames that answer it.
 use Rattle.std.specs.Prelude.{ℕ, ◌+◌, ◌==◌, ◌&&◌, ◌||◌, Bool, true, false, List, [], ◌∷◌, length}
 use Rattle.omci_types.specs.declared.EntityId.{EntityId}
 use Rattle.omci_types.specs.declared.Frame.{Frame}
@@ -10,8 +11,8 @@ use Rattle.frame_spec.specs.Baseline.{spelling}
 use Rattle.lane_spec.specs.declared.Purpose.{Purpose}
 use Rattle.lane_spec.specs.declared.Purpose.TheVariants as purpose
 
--- The request that is asked of an entity, and why. A probe is a get of MIB data sync that proves the
--- lane by any answer. A window of a download is one command: its request is the window's last
+-- The request that is asked of an entity, and why. A probe is a get of MIB data sync that proves
+-- the lane by any answer. A window of a download is one command: its request is the window's last
 -- section, before which the earlier ones are sent.
 pub record Command : Type 0 where
   pub purpose : Purpose
@@ -27,7 +28,12 @@ abbrev pub sync_request : Request
 sync_request = request.Get 0x8000
 
 abbrev pub probe_command : Command
-probe_command = record { purpose = purpose.Probe; entity = sync_entity; request = sync_request; earlier = [] }
+probe_command = record {
+  purpose = purpose.Probe;
+  entity = sync_entity;
+  request = sync_request;
+  earlier = [];
+}
 
 -- a request for an entity, which a caller submits
 abbrev pub ask : EntityId → Request → Command
@@ -35,7 +41,12 @@ ask entity r = record { purpose = purpose.Submission; entity = entity; request =
 
 -- a get of MIB data sync, for the counter's sake
 abbrev pub check_command : Command
-check_command = record { purpose = purpose.Check; entity = sync_entity; request = sync_request; earlier = [] }
+check_command = record {
+  purpose = purpose.Check;
+  entity = sync_entity;
+  request = sync_request;
+  earlier = [];
+}
 
 -- a request of the running job
 abbrev pub job_command : EntityId → Request → Command
@@ -67,7 +78,8 @@ section_packet tci entity number bytes =
     spelling (plain (Asked tci entity (request.Section number bytes false)))
 
 -- the packets of such sections, the first of which has that number, before other packets
-abbrev pub with_sections : (tci : ℕ) → EntityId → (number : ℕ) → List (List ℕ) → List (List ℕ) → List (List ℕ)
+abbrev pub with_sections : (tci : ℕ) → EntityId → (number : ℕ) → List (List ℕ) → List (List ℕ)
+    → List (List ℕ)
 with_sections tci entity number [] packets = packets
 with_sections tci entity number (bytes ∷ rest) packets =
     section_packet tci entity number bytes ∷ with_sections tci entity (number + 1) rest packets
@@ -80,11 +92,13 @@ command_packets tci c =
 abbrev pub same_entity : EntityId → EntityId → Bool
 same_entity a b = (a.class == b.class) && (a.instance == b.instance)
 
--- whether a frame is the response to a request: it is of the request's type with AK in place of AR, and names its entity
+-- whether a frame is the response to a request: it is of the request's type with AK in place of AR,
+-- and names its entity
 abbrev pub is_response : Frame → Frame → Bool
 is_response asked f = (f.kind + 0x20 == asked.kind) && same_entity f.entity asked.entity
 
--- Whether a frame answers a command that has that TCI. A probe is answered by every frame under its TCI.
+-- Whether a frame answers a command that has that TCI. A probe is answered by every frame under its
+-- TCI.
 abbrev pub answers : ℕ → Command → Frame → Bool
 answers tci c f = (f.tci == tci) && (is_probe c.purpose || is_response (command_frame tci c) f)
 

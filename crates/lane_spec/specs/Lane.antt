@@ -1,4 +1,5 @@
--- One lane of the manager (ITU-T G.988, clause 11.2.2): at most one command outstanding, sent again when its time is over.
+-- One lane of the manager (ITU-T G.988, clause 11.2.2): at most one command outstanding, sent again
+-- when its time is over.
 use Rattle.std.specs.Prelude.{ℕ, ◌+◌, ◌||◌, Bool, true, false, nat_le, nat_lt, List, [], Option, Some, None}
 use Rattle.omci_types.specs.declared.Frame.{Frame}
 use Rattle.omci_types.specs.declared.Priority.{Priority}
@@ -9,14 +10,16 @@ use Rattle.lane_spec.specs.declared.LaneTick.TheVariants.{Quiet, Repeat, GaveUp}
 use Rattle.lane_spec.specs.declared.TheConstants.{LOW_TIMEOUT, HIGH_TIMEOUT, MOST_REPEATS}
 use Rattle.lane_spec.specs.Command.{Command, command_packets, is_changing, is_probe, answers}
 
--- A command that waits for its reply: the seconds since it was last sent, and how many times it was sent again.
+-- A command that waits for its reply: the seconds since it was last sent, and how many times it was
+-- sent again.
 pub record Waiting : Type 0 where
   pub tci : ℕ
   pub command : Command
   pub ticks : ℕ
   pub repeats : ℕ
 
--- Its priority, whether it is proved, the number that its next command draws, and the command that is outstanding.
+-- Its priority, whether it is proved, the number that its next command draws, and the command that
+-- is outstanding.
 pub record Lane : Type 0 where
   pub priority : Priority
   pub proved : Bool
@@ -25,7 +28,12 @@ pub record Lane : Type 0 where
 
 -- a lane whose manager starts with that number
 abbrev pub new_lane : Priority → ℕ → Lane
-new_lane priority number = record { priority = priority; proved = false; next = number; outstanding = None }
+new_lane priority number = record {
+  priority = priority;
+  proved = false;
+  next = number;
+  outstanding = None;
+}
 
 abbrev pub next_tci : Lane → ℕ
 next_tci l = tci_of l.priority l.next
@@ -65,14 +73,25 @@ pub record Ticked : Type 0 where
   pub tick : LaneTick
 
 abbrev pub counts_on : Waiting → Lane → Ticked
-counts_on w l = record { lane = record l { outstanding = Some (record w { ticks = w.ticks + 1 }) }; tick = Quiet }
+counts_on w l = record {
+  lane = record l { outstanding = Some (record w { ticks = w.ticks + 1 }) };
+  tick = Quiet;
+}
 
 abbrev pub repeats_it : Waiting → Lane → Ticked
 repeats_it w l =
-    record { lane = record l { outstanding = Some (record w { ticks = 0; repeats = w.repeats + 1 }) }; tick = Repeat }
+    record {
+      lane = record l {
+        outstanding = Some (record w { ticks = 0; repeats = w.repeats + 1 });
+      };
+      tick = Repeat;
+    }
 
 abbrev pub gives_up : Waiting → Lane → Ticked
-gives_up w l = record { lane = record l { proved = false; outstanding = None }; tick = GaveUp w.tci }
+gives_up w l = record {
+  lane = record l { proved = false; outstanding = None };
+  tick = GaveUp w.tci;
+}
 
 -- its time isn't over; or it is, and it was not yet sent again as often as it may be; or it was
 abbrev pub tick_by : (is_over may_repeat : Bool) → Waiting → Lane → Ticked
@@ -82,7 +101,8 @@ tick_by true false w l = gives_up w l
 
 abbrev pub tick_waiting : Option Waiting → Lane → Ticked
 tick_waiting None l = record { lane = l; tick = Quiet }
-tick_waiting (Some w) l = tick_by (nat_le (timeout_of l.priority) (w.ticks + 1)) (nat_lt w.repeats MOST_REPEATS) w l
+tick_waiting (Some w) l = tick_by (nat_le (timeout_of l.priority) (w.ticks + 1))
+    (nat_lt w.repeats MOST_REPEATS) w l
 
 unfoldable pub lane_tick : Lane → Ticked
 lane_tick l = tick_waiting l.outstanding l

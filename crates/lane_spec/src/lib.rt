@@ -1,11 +1,12 @@
-//! One lane of the manager: a command that waits for its reply, when it is sent again and when it is given up. Plain types
-//! and definitions alone.
+//! One lane of the manager: a command that waits for its reply, when it is sent again and when it
+//! is given up. Plain types and definitions alone.
 #![tactic(auto)]
 
 /// A command of low priority is sent again when so many seconds have passed since it was last sent.
 pub const LOW_TIMEOUT: u8 = 3;
 
-/// A command of high priority is sent again when so many seconds have passed since it was last sent.
+/// A command of high priority is sent again when so many seconds have passed since it was last
+/// sent.
 pub const HIGH_TIMEOUT: u8 = 1;
 
 /// A command is sent again so many times; the next timeout gives it up.

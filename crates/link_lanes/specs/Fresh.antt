@@ -23,13 +23,15 @@ if_on false o = None
 -- the packets of a direction below that number may be passed over
 abbrev pub Skips : Direction → ℕ → Latest → Ways → Type 0
 Skips d n l ways =
-    first_fresh (is_down d) (not (is_down d)) (first_of l + (n - first_of l)) (drop (n - first_of l) l.last) ways l.count ≡ fresh_in d l ways
+    first_fresh (is_down d) (not (is_down d)) (first_of l + (n - first_of l))
+    (drop (n - first_of l) l.last) ways l.count ≡ fresh_in d l ways
 
 -- what a link holds
 abbrev pub held_as : Latest → Ways → Held
 held_as l ways = record { count = l.count; last = l.last; ways = ways }
 
--- The packets that are held were sent and are no more than may be held, and the kept answers are the oldest fresh ones.
+-- The packets that are held were sent and are no more than may be held, and the kept answers are
+-- the oldest fresh ones.
 pub record IsLink (l : Latest) (ways : Ways) (to_unit to_manager : Option ℕ) : Type 0 where
   pub countable : l.count ≤ 2 ^ 63
   pub sent : length l.last ≤ l.count

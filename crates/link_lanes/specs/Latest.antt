@@ -1,5 +1,6 @@
--- The last packets of a link, and how they are held: the first 48 bytes of each packet stand in one ring, and what a
--- longer packet has past them in another, which has an item for each of these packets alone.
+-- The last packets of a link, and how they are held: the first 48 bytes of each packet stand in one
+-- ring, and what a longer packet has past them in another, which has an item for each of these
+-- packets alone.
 use Rattle.std.specs.Prelude.{◌≡◌, ℕ, ◌+◌, ◌-◌, ◌≤◌, ◌^◌, Bool, true, false, nat_lt, List, [], ◌∷◌, ◌++◌, length, take, drop}
 use Rattle.circular_buffer.specs.Buffer.{Buffer, buffer, keep_last}
 use Rattle.frame_spec.specs.declared.TheConstants.{MAX_PACKET_BYTES}
@@ -62,7 +63,10 @@ bytes_by false f rest = take f.length f.bytes
 
 -- the packet whose front that is; its rest, where it has one, is the first of the rests
 abbrev pub packet_of : Front → List (List ℕ) → Sent
-packet_of f rests = record { direction = f.direction; bytes = bytes_by (is_long f) f (first_rest rests) }
+packet_of f rests = record {
+  direction = f.direction;
+  bytes = bytes_by (is_long f) f (first_rest rests);
+}
 
 -- the packets of these fronts and rests
 abbrev pub joined : List Front → List (List ℕ) → List Sent
@@ -83,17 +87,18 @@ abbrev pub AreFronts : List Front → Type 0
 AreFronts [] = Unit {0}
 AreFronts (f ∷ fs) = IsFront f × AreFronts fs
 
-pub record IsLatest (fronts : Buffer Front) (rests : Buffer (List ℕ)) (sent rests_sent : ℕ) : Type 0 where
-  pub capacity : fronts.capacity ≡ WINDOW
-  pub room : rests.capacity ≡ WINDOW
-  pub fits : length fronts.items ≤ WINDOW
-  pub within : length fronts.items ≤ sent
-  pub below : sent ≤ 2 ^ 63
-  pub fewer : rests_sent ≤ sent
-  pub each : AreFronts fronts.items
-  pub numbered : IsNumbered (rests_sent - length rests.items) fronts.items
-  pub same : rests_in fronts.items ≡ length rests.items
-  pub before : length rests.items ≤ rests_sent
+pub record IsLatest (fronts : Buffer Front) (rests : Buffer (List ℕ)) (sent rests_sent : ℕ) : Type 0
+  where
+    pub capacity : fronts.capacity ≡ WINDOW
+    pub room : rests.capacity ≡ WINDOW
+    pub fits : length fronts.items ≤ WINDOW
+    pub within : length fronts.items ≤ sent
+    pub below : sent ≤ 2 ^ 63
+    pub fewer : rests_sent ≤ sent
+    pub each : AreFronts fronts.items
+    pub numbered : IsNumbered (rests_sent - length rests.items) fronts.items
+    pub same : rests_in fronts.items ≡ length rests.items
+    pub before : length rests.items ≤ rests_sent
 
 -- the rest of these bytes, where they have one, was added
 pub record AddsRest (bytes : List ℕ) (earlier later : Buffer (List ℕ)) (added : ℕ) : Type 0 where
@@ -101,4 +106,5 @@ pub record AddsRest (bytes : List ℕ) (earlier later : Buffer (List ℕ)) (adde
   pub items : later ≡ buffer (earlier.items ++ rests) earlier.capacity
   pub count : length rests ≡ added
   pub one : added ≡ rests_if (nat_lt FRONT_LENGTH (length bytes))
-  pub holds : nat_lt FRONT_LENGTH (length bytes) ≡ true → take (length bytes - FRONT_LENGTH) (first_rest rests) ≡ drop FRONT_LENGTH bytes
+  pub holds : nat_lt FRONT_LENGTH (length bytes) ≡ true
+      → take (length bytes - FRONT_LENGTH) (first_rest rests) ≡ drop FRONT_LENGTH bytes

@@ -12,4 +12,5 @@ pub record IsDelivered (number : ℕ) (earlier later : Held) : Type 0 where
   pub stands : (l : Link) → earlier ≡ held_of l → later ≡ held_of (link_after number l)
 
 abbrev pub EndsDelivered : MutBor Held → ℕ → Fml
-EndsDelivered lanes number = follows_so the_row the_row lanes.ghost_name none (λ _ _. ⊤) (λ later. IsDelivered number lanes.now later)
+EndsDelivered lanes number = follows_so the_row the_row lanes.ghost_name none (λ _ _. ⊤) (λ later.
+    IsDelivered number lanes.now later)

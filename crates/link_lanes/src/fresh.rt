@@ -39,13 +39,8 @@ fn is_fresh_at(latest: &Latest, ways: &Ways, direction: Direction, place: usize)
     }
 }
 
-/// The first fresh packet of the direction from a place of those that are held on.
-pub(crate) fn first_fresh_from(
-    latest: &Latest,
-    ways: &Ways,
-    direction: Direction,
-    start: usize,
-) -> Option<u64>
+/// The first fresh packet of the direction from a place of those that are held on, one by one.
+fn first_fresh_past(latest: &Latest, ways: &Ways, direction: Direction, start: usize) -> Option<u64>
     requires countable { latest.now.count ≤ 2 ^ 63 }
     requires held { length latest.now.last ≤ latest.now.count }
     requires within { start ≤ length latest.now.last }
@@ -60,6 +55,34 @@ pub(crate) fn first_fresh_from(
         }
     }
     None
+}
+
+/// The first fresh packet of the direction from a place of those that are held on. Mostly no packet
+/// or one is there from that place on, so these are answered without a loop.
+#[inline(always)]
+pub(crate) fn first_fresh_from(
+    latest: &Latest,
+    ways: &Ways,
+    direction: Direction,
+    start: usize,
+) -> Option<u64>
+    requires countable { latest.now.count ≤ 2 ^ 63 }
+    requires held { length latest.now.last ≤ latest.now.count }
+    requires within { start ≤ length latest.now.last }
+    ensures value { result
+        ≡ first_fresh (is_down direction) (not (is_down direction)) (first_of latest.now + start)
+        (drop start latest.now.last) ways.now latest.now.count }
+{
+    if start >= latest.len() {
+        return None;
+    }
+    if is_fresh_at(latest, ways, direction, start) {
+        return Some(latest.first() + start as u64);
+    }
+    if start + 1 == latest.len() {
+        return None;
+    }
+    first_fresh_past(latest, ways, direction, start + 1)
 }
 
 /// The lesser of two numbers of packets, where both are there.

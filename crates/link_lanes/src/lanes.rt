@@ -54,6 +54,7 @@ fn direction_if(down: bool) -> Direction
 
 /// The oldest fresh packet of a direction, none of whose packets below the known one, or below
 /// `passed` where none is known, is fresh.
+#[inline(always)]
 fn refreshed(
     latest: &Latest,
     ways: &Ways,

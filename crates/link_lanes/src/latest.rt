@@ -5,6 +5,7 @@
 ghost use Rattle.std.specs.Prelude.{◌≡◌, ◌+◌, ◌-◌, ◌<◌, ◌≤◌, ◌^◌, length, take, drop, true};
 ghost use Rattle.std.specs.Prelude.{slice_get, option_map, Some, IfOk};
 ghost use Rattle.frame_spec.specs.declared.TheConstants.{MAX_PACKET_BYTES};
+ghost use Rattle.frame_spec.specs.Widths.{front_filled};
 ghost use Rattle.tci_spec.specs.Tci.{priority_of, packet_tci};
 ghost use Rattle.link_spec.specs.Link.{lane_of};
 ghost use Rattle.circular_buffer.specs.Buffer.{buffer};
@@ -79,6 +80,16 @@ fn rest_of(bytes: &[u8]) -> [u8; REST_LENGTH]
     filled(tail(bytes))
 }
 
+/// The first 48 bytes, and zeros where there are fewer.
+fn front_of(bytes: &[u8]) -> [u8; FRONT_LENGTH]
+    ensures value { result ≡ front_filled FRONT_LENGTH bytes.now }
+{
+    match bytes.first_chunk::<FRONT_LENGTH>() {
+        Some(front) => *front,
+        None => front_filled(bytes),
+    }
+}
+
 /// Adds the rest of a packet, where it has one, and answers how many were added.
 fn push_rest(rests: &mut HeapCircularBuffer<[u8; REST_LENGTH]>, bytes: &[u8]) -> u64
     requires most { length bytes.now ≤ MAX_PACKET_BYTES }
@@ -124,11 +135,14 @@ fn copy_packet(
     ensures value { into.new ≡ (packet_of front.now (drop place rests.now.items)).bytes }
 {
     let length = front.length as usize;
-    if length <= FRONT_LENGTH {
+    if length < FRONT_LENGTH {
         into.put(&front.bytes[..length]);
         return;
     }
     into.put(&front.bytes);
+    if length == FRONT_LENGTH {
+        return;
+    }
     if let Some(rest) = rests.get(place) {
         into.append(part(rest, length - FRONT_LENGTH));
     }
@@ -214,7 +228,7 @@ impl Latest {
             direction,
             length: bytes.len() as u16,
             rests_before: self.rests_sent,
-            bytes: front_filled(bytes),
+            bytes: front_of(bytes),
         };
         self.rests_sent += push_rest(&mut self.rests, bytes);
         self.fronts.push_back(front);

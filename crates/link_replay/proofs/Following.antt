@@ -21,7 +21,8 @@ use Rattle.world_spec.specs.Happenings.{Happening, ReplyTaken, NoticeTaken, held
 use Rattle.world_spec.specs.Ends.{Ends, Step, still, not_enabled, stage_in, image_told, download_told, sends, if_drawn, if_asked, goes_down, copy_told, result_told, report_told, manager_did, submission_by, submission, manager_got, manager_ticks}
 use Rattle.world_spec.specs.Trace.{line_text, lines_text}
 use Rattle.link_replay.proofs.Reading.{lines_both, held_both}
-use Rattle.link_replay.specs.Seen.{Seen, EndsStand, Follows, Scene, Shown, shown, followed, with_downs, downs_text, copy_text, told_text, reports_text, down}
+use Rattle.link_replay.specs.Seen.{Seen, EndsStand, Follows, Scene, Shown, shown, followed, with_downs, downs_text, down}
+use Rattle.trace_lines.specs.Reports.{copy_text, told_text, reports_text}
 
 -- a line alone
 pub one_line : (text line : List ℕ) → text ++ (line ++ []) ≡ text ++ line

@@ -1,7 +1,6 @@
--- What callers see of a world, and the nodes that it stands for. And what a step of the ends makes of it and of a text to which its
--- lines are added.
+-- What callers see of a world, and the nodes that it stands for. And what a step of the ends makes
+-- of it and of a text to which its lines are added.
 use Rattle.std.specs.Prelude.{◌≡◌, ℕ, ◌+◌, ◌*◌, Bool, true, false, List, [], ◌∷◌, ◌++◌, length, Option, Some, None}
-use Rattle.std.specs.List.{flat_map}
 use Rattle.omci_types.specs.declared.Boot.{Boot}
 use Rattle.message_spec.specs.declared.Request.TheVariants as request
 use Rattle.frame_spec.specs.Baseline.{frame_of}
@@ -29,18 +28,17 @@ use Rattle.image_store.specs.declared.state.State.{State as Form}
 use Rattle.image_store.specs.Stands.{state_disk}
 use Rattle.onu_agent.specs.State.{State as Agent, AgentStands}
 use Rattle.manager_spec.specs.declared.Report.{Report}
-use Rattle.manager_spec.specs.declared.Report.TheVariants as report
 use Rattle.manager_spec.specs.Manager.{Manager, manager_started}
 use Rattle.manager_spec.specs.Upgrade.{image_entity}
 use Rattle.world_spec.specs.declared.Effect.TheVariants as effect
 use Rattle.world_spec.specs.Happenings.{held_read}
 use Rattle.world_spec.specs.Ends.{Ends, Step}
 use Rattle.world_spec.specs.Nodes.{Nodes}
-use Rattle.world_spec.specs.Trace.{line_text, lines_text, copy_line, alarm_line}
+use Rattle.world_spec.specs.Trace.{line_text, lines_text}
 use Rattle.link_replay.specs.declared.asked.Asked.{Asked}
 
--- how many lines are done, how many lives the unit has had, how many bytes its disk has, its agent, and its disk while it is off; the
--- manager; and what is held of the link
+-- how many lines are done, how many lives the unit has had, how many bytes its disk has, its agent,
+-- and its disk while it is off; the manager; and what is held of the link
 pub record Seen : Type 0 where
   pub event : ℕ
   pub lives : ℕ
@@ -73,7 +71,8 @@ pub record AgentRuns (room size : ℕ) (agent : Agent MemState) (u : Onu) : Type
   pub clear : (state_disk form).trap ≡ Clear
 
 -- a unit that is on is an agent, and one that is off a disk
-abbrev pub UnitStands : (room size : ℕ) → Option (Agent MemState) → Option MemState → Option Onu → SlotPair → Type 0
+abbrev pub UnitStands : (room size : ℕ) → Option (Agent MemState) → Option MemState → Option Onu
+    → SlotPair → Type 0
 UnitStands room size (Some agent) disk (Some u) s = AgentRuns room size agent u
 UnitStands room size (Some agent) disk None s = ⊥
 UnitStands room size None (Some disk) None s = DiskStands room size disk s
@@ -171,15 +170,21 @@ life_text event lives (Some u) = line_text event (effect.UnitStarted lives (soft
 -- the request that a line submits
 abbrev pub asked_by : Action → Option Asked
 asked_by (Reset lane) = Some (record { lane = lane; entity = sync_entity; request = request.Reset })
-asked_by (Get lane entity mask) = Some (record { lane = lane; entity = entity; request = request.Get mask })
+asked_by (Get lane entity mask) =
+    Some (record { lane = lane; entity = entity; request = request.Get mask })
 asked_by (Create lane entity values) =
     Some (record { lane = lane; entity = entity; request = request.Create (filled 32 values) })
 asked_by (Set lane entity mask values) =
     Some (record { lane = lane; entity = entity; request = request.Set mask (filled 30 values) })
-asked_by (Delete lane entity) = Some (record { lane = lane; entity = entity; request = request.Delete })
+asked_by (Delete lane entity) =
+    Some (record { lane = lane; entity = entity; request = request.Delete })
 asked_by (Activate lane slot) =
     Some (record { lane = lane; entity = image_entity slot; request = request.Activate 0 })
-asked_by (Commit lane slot) = Some (record { lane = lane; entity = image_entity slot; request = request.Commit })
+asked_by (Commit lane slot) = Some (record {
+  lane = lane;
+  entity = image_entity slot;
+  request = request.Commit;
+})
 asked_by (Reboot lane) = Some (record { lane = lane; entity = ONU_G; request = request.Reboot 0 })
 asked_by _ = None
 
@@ -233,25 +238,6 @@ alarms_in (Some m) = m.table.rows
 abbrev pub without_reports : Option Manager → Option Manager
 without_reports None = None
 without_reports (Some m) = Some (record m { reports = [] })
-
-abbrev pub copy_text : ℕ → Option Copy → List ℕ
-copy_text event None = []
-copy_text event (Some copy) = flat_map (copy_line event) copy
-
--- the lines of the copy after the report of a resynchronisation, and those of the table's alarms after that of an audit
-abbrev pub told_text : ℕ → Report → Option Copy → Alarms → List ℕ
-told_text event (report.Synced entities counter) copy alarms = copy_text event copy
-told_text event (report.Audited rows) copy alarms = flat_map (alarm_line event) alarms
-told_text event _ copy alarms = []
-
--- the lines of a report
-abbrev pub report_lines : ℕ → Option Copy → Alarms → Report → List ℕ
-report_lines event copy alarms r =
-    line_text event (effect.Reported r) ++ told_text event r copy alarms
-
--- the lines of each report
-abbrev pub reports_text : ℕ → Option Copy → Alarms → List Report → List ℕ
-reports_text event copy alarms reports = flat_map (report_lines event copy alarms) reports
 
 abbrev pub down : List ℕ → Sent
 down bytes = record { direction = Down; bytes = bytes }

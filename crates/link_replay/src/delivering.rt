@@ -11,6 +11,7 @@ use crate::machine::{Machine, Outbox};
 use link_spec::Direction;
 use omci_core::NoMemory;
 use slot_spec::Pick;
+use trace_lines::Lines;
 use world_spec::Effect;
 
 impl Machine {
@@ -19,10 +20,11 @@ impl Machine {
         &mut self,
         number: u64,
         outbox: &mut Outbox,
-        out: &mut Vec<u8>,
+        out: &mut Lines,
     ) -> Result<(), NoMemory>
         ensures follows { OnOk result ((e : Ends) → EndsStand self.old e → Follows
-            (delivery_of (held_allowed number self.old.held) number e) e self.old self.new out.old.items out.new.items) }
+            (delivery_of (held_allowed number self.old.held) number e) e self.old self.new out.old
+            out.new) }
     {
         if !self.link.allowed(number) {
             return self.show(&Effect::NotEnabled, out);
@@ -52,17 +54,19 @@ impl Machine {
 
     /// The packet of that number is delivered to the unit, where it may come, and the unit's power
     /// goes at that device call, or after the delivery where it makes fewer. Nothing is answered.
+    #[inline(never)]
     fn cut_in(
         &mut self,
         number: u64,
         call: u64,
         pick: Pick,
         outbox: &mut Outbox,
-        out: &mut Vec<u8>,
+        out: &mut Lines,
     ) -> Result<(), NoMemory>
         requires counted { 1 ≤ call }
         ensures follows { OnOk result ((e : Ends) → EndsStand self.old e → Follows
-            (cut_of call pick (held_allowed number self.old.held) number e) e self.old self.new out.old.items out.new.items) }
+            (cut_of call pick (held_allowed number self.old.held) number e) e self.old self.new
+            out.old out.new) }
     {
         if !self.comes_down(number) {
             return self.show(&Effect::NotEnabled, out);
@@ -78,15 +82,16 @@ impl Machine {
 
     /// Bytes come that nobody sent.
     #[tactic(auto, unfolding(world_spec::specs::Ends::noise))]
+    #[inline(never)]
     pub fn noise(
         &mut self,
         direction: Direction,
         bytes: &[u8],
         outbox: &mut Outbox,
-        out: &mut Vec<u8>,
+        out: &mut Lines,
     ) -> Result<(), NoMemory>
         ensures follows { OnOk result ((e : Ends) → EndsStand self.old e
-            → Follows (noise direction bytes.now e) e self.old self.new out.old.items out.new.items) }
+            → Follows (noise direction bytes.now e) e self.old self.new out.old out.new) }
     {
         match direction {
             Direction::Down => self.to_unit(bytes, &mut outbox.reply, out)?,
@@ -99,21 +104,19 @@ impl Machine {
 
     /// The number of the oldest fresh packet.
     fn oldest_fresh(&self) -> Option<u64>
-        ensures value { result ≡ held_fresh (is_some self.now.unit) (is_some self.now.manager) self.now.held }
+        ensures value { result ≡ held_fresh (is_some self.now.unit) (is_some self.now.manager)
+            self.now.held }
     {
         self.link
             .fresh(self.agent.is_some(), self.manager.is_some())
     }
 
     /// The oldest fresh packet is delivered, so many times or until there is none.
-    pub fn flow(
-        &mut self,
-        times: u32,
-        outbox: &mut Outbox,
-        out: &mut Vec<u8>,
-    ) -> Result<(), NoMemory>
-        ensures follows { OnOk result ((e : Ends) → EndsStand self.old e → (l : Link) → self.old.held ≡ held_of l
-            → Follows (flow times (record { ends = e; link = l })) e self.old self.new out.old.items out.new.items) }
+    pub fn flow(&mut self, times: u32, outbox: &mut Outbox, out: &mut Lines) -> Result<(), NoMemory>
+        ensures follows { OnOk result ((e : Ends) → EndsStand self.old e → (l : Link)
+            → self.old.held ≡ held_of l
+            → Follows (flow times (record { ends = e; link = l })) e self.old self.new out.old
+            out.new) }
     {
         for _done in 0..times {
             match self.oldest_fresh() {
@@ -124,15 +127,18 @@ impl Machine {
         Ok(())
     }
 
-    /// The packet of that number is delivered, where it may come from the link that this is held of.
+    /// The packet of that number is delivered, where it may come from the link that this is held
+    /// of.
     pub fn deliver_there(
         &mut self,
         number: u64,
         outbox: &mut Outbox,
-        out: &mut Vec<u8>,
+        out: &mut Lines,
     ) -> Result<(), NoMemory>
-        ensures follows { OnOk result ((e : Ends) → EndsStand self.old e → (l : Link) → self.old.held ≡ held_of l
-            → Follows (delivery number (record { ends = e; link = l })) e self.old self.new out.old.items out.new.items) }
+        ensures follows { OnOk result ((e : Ends) → EndsStand self.old e → (l : Link)
+            → self.old.held ≡ held_of l
+            → Follows (delivery number (record { ends = e; link = l })) e self.old self.new out.old
+            out.new) }
     {
         self.deliver(number, outbox, out)?;
         Ok(())
@@ -145,11 +151,13 @@ impl Machine {
         call: u64,
         pick: Pick,
         outbox: &mut Outbox,
-        out: &mut Vec<u8>,
+        out: &mut Lines,
     ) -> Result<(), NoMemory>
         requires counted { 1 ≤ call }
-        ensures follows { OnOk result ((e : Ends) → EndsStand self.old e → (l : Link) → self.old.held ≡ held_of l
-            → Follows (cut_delivery call pick number (record { ends = e; link = l })) e self.old self.new out.old.items out.new.items) }
+        ensures follows { OnOk result ((e : Ends) → EndsStand self.old e → (l : Link)
+            → self.old.held ≡ held_of l
+            → Follows (cut_delivery call pick number (record { ends = e; link = l })) e self.old
+            self.new out.old out.new) }
     {
         self.cut_in(number, call, pick, outbox, out)?;
         Ok(())

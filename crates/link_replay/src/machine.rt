@@ -10,11 +10,10 @@ ghost use Rattle.world_spec.specs.declared.Effect.TheVariants as effect;
 ghost use Rattle.world_spec.specs.Ends.{Ends, submission, manager_got, manager_ticks};
 ghost use Rattle.world_spec.specs.Trace.{line_text};
 ghost use Rattle.olt_manager.specs.State.{AreFrames};
-ghost use Rattle.link_replay.specs.Seen.{EndsStand, Follows, copy_in, alarms_in, reports_in, without_reports, reports_text, with_downs, downs_text};
+ghost use Rattle.link_replay.specs.Seen.{EndsStand, Follows, copy_in, alarms_in, reports_in, without_reports, with_downs, downs_text};
+ghost use Rattle.trace_lines.specs.Reports.{reports_text};
 
 use crate::asked::Asked;
-use crate::reports::push_reports;
-use crate::texts::push_line;
 use link_lanes::Lanes;
 use link_spec::Direction;
 use manager_spec::Refusal;
@@ -25,9 +24,11 @@ use onu_agent::Agent;
 use slot_disk::MemDisk;
 use std::alloc::Global;
 use std::marker::Model;
+use trace_lines::{Lines, push_line, push_reports, push_sent_line};
 use world_spec::Effect;
 
-/// No link carries more packets: one past them is refused as if memory had run out. No script is long enough to come there.
+/// No link carries more packets: one past them is refused as if memory had run out. No script is
+/// long enough to come there.
 const MOST_PACKETS: u64 = 1 << 62;
 
 #[derive(Drop)]
@@ -99,8 +100,8 @@ impl Outbox {
 
 impl Machine {
     /// Appends the line of an effect.
-    pub fn show(&self, effect: &Effect, out: &mut Vec<u8>) -> Result<(), NoMemory>
-        ensures line { OnOk result (out.new.items ≡ out.old.items ++ line_text self.now.event effect.now) }
+    pub fn show(&self, effect: &Effect, out: &mut Lines) -> Result<(), NoMemory>
+        ensures line { OnOk result (out.new ≡ out.old ++ line_text self.now.event effect.now) }
     {
         push_line(out, self.event, effect)
     }
@@ -110,13 +111,13 @@ impl Machine {
         &mut self,
         direction: Direction,
         packet: &Packet,
-        out: &mut Vec<u8>,
+        out: &mut Lines,
     ) -> Result<(), NoMemory>
         requires whole { length packet.now ≡ 48 }
         ensures machine { OnOk result (self.new ≡ record self.old {
           held = held_sent (record { direction = direction; bytes = packet.now }) self.old.held;
         }) }
-        ensures line { OnOk result (out.new.items ≡ out.old.items ++ line_text self.old.event
+        ensures line { OnOk result (out.new ≡ out.old ++ line_text self.old.event
             (effect.PacketSent self.old.held.count direction (frame_of packet.now))) }
     {
         if self.link.sent() >= MOST_PACKETS {
@@ -124,19 +125,15 @@ impl Machine {
         }
         let number = self.link.send(direction == Direction::Down, packet);
         let frame = frame_at(packet.bytes());
-        let sent = Effect::PacketSent {
-            number,
-            direction,
-            frame,
-        };
-        self.show(&sent, out)
+        push_sent_line(out, self.event, number, direction, &frame)
     }
 
     /// Sends packets down, one after the other.
-    fn send_down(&mut self, packets: &Packets, out: &mut Vec<u8>) -> Result<(), NoMemory>
+    fn send_down(&mut self, packets: &Packets, out: &mut Lines) -> Result<(), NoMemory>
         requires whole { AreFrames packets.now }
-        ensures machine { OnOk result (self.new ≡ record self.old { held = with_downs packets.now self.old.held }) }
-        ensures lines { OnOk result (out.new.items ≡ out.old.items
+        ensures machine { OnOk result (self.new
+            ≡ record self.old { held = with_downs packets.now self.old.held }) }
+        ensures lines { OnOk result (out.new ≡ out.old
             ++ downs_text self.old.event self.old.held.count packets.now) }
     {
         for place in 0..packets.len() {
@@ -148,14 +145,15 @@ impl Machine {
     // ---- the manager
 
     /// Takes the manager's reports out, each a line, and then sends its packets.
-    fn after_manager(&mut self, packets: &Packets, out: &mut Vec<u8>) -> Result<(), NoMemory>
+    fn after_manager(&mut self, packets: &Packets, out: &mut Lines) -> Result<(), NoMemory>
         requires whole { AreFrames packets.now }
         ensures machine { OnOk result (self.new ≡ record self.old {
           manager = without_reports self.old.manager;
           held = with_downs packets.now self.old.held;
         }) }
-        ensures lines { OnOk result (out.new.items ≡ out.old.items
-            ++ (reports_text self.old.event (copy_in self.old.manager) (alarms_in self.old.manager) (reports_in self.old.manager)
+        ensures lines { OnOk result (out.new ≡ out.old
+            ++ (reports_text self.old.event (copy_in self.old.manager) (alarms_in self.old.manager)
+            (reports_in self.old.manager)
             ++ downs_text self.old.event self.old.held.count packets.now)) }
     {
         if let Some(manager) = &mut self.manager {
@@ -166,9 +164,11 @@ impl Machine {
     }
 
     /// Appends the line of a command that was not submitted.
-    fn refuse(&self, refusal: Refusal, out: &mut Vec<u8>) -> Result<(), NoMemory>
+    #[inline(never)]
+    fn refuse(&self, refusal: Refusal, out: &mut Lines) -> Result<(), NoMemory>
         ensures refused { OnOk result (refusal ≢ why.NoMemory) }
-        ensures line { OnOk result (out.new.items ≡ out.old.items ++ line_text self.now.event (effect.Refused refusal)) }
+        ensures line { OnOk result (out.new ≡ out.old
+            ++ line_text self.now.event (effect.Refused refusal)) }
     {
         match refusal {
             Refusal::NoMemory => Err(NoMemory),
@@ -177,14 +177,16 @@ impl Machine {
     }
 
     /// The manager probes a lane.
+    #[inline(never)]
     pub fn probe(
         &mut self,
         lane: Priority,
         outbox: &mut Outbox,
-        out: &mut Vec<u8>,
+        out: &mut Lines,
     ) -> Result<(), NoMemory>
         ensures follows { OnOk result ((e : Ends) → EndsStand self.old e
-            → Follows (submission (after_probe lane) e.manager e) e self.old self.new out.old.items out.new.items) }
+            → Follows (submission (after_probe lane) e.manager e) e self.old self.new out.old
+            out.new) }
     {
         let Some(manager) = &mut self.manager else {
             return self.show(&Effect::NotEnabled, out);
@@ -202,11 +204,12 @@ impl Machine {
         &mut self,
         asked: &Asked,
         outbox: &mut Outbox,
-        out: &mut Vec<u8>,
+        out: &mut Lines,
     ) -> Result<(), NoMemory>
         requires window { RequestWindow asked.now.request }
         ensures follows { OnOk result ((e : Ends) → EndsStand self.old e
-            → Follows (submission (after_submit asked.now.lane asked.now.entity asked.now.request) e.manager e) e self.old self.new out.old.items out.new.items) }
+            → Follows (submission (after_submit asked.now.lane asked.now.entity asked.now.request)
+            e.manager e) e self.old self.new out.old out.new) }
     {
         let Some(manager) = &mut self.manager else {
             return self.show(&Effect::NotEnabled, out);
@@ -220,9 +223,10 @@ impl Machine {
     }
 
     /// The manager compares the unit's counter with its copy's.
-    pub fn check(&mut self, outbox: &mut Outbox, out: &mut Vec<u8>) -> Result<(), NoMemory>
+    #[inline(never)]
+    pub fn check(&mut self, outbox: &mut Outbox, out: &mut Lines) -> Result<(), NoMemory>
         ensures follows { OnOk result ((e : Ends) → EndsStand self.old e
-            → Follows (submission after_check e.manager e) e self.old self.new out.old.items out.new.items) }
+            → Follows (submission after_check e.manager e) e self.old self.new out.old out.new) }
     {
         let Some(manager) = &mut self.manager else {
             return self.show(&Effect::NotEnabled, out);
@@ -236,9 +240,10 @@ impl Machine {
     }
 
     /// The manager begins a resynchronisation.
-    pub fn resync(&mut self, outbox: &mut Outbox, out: &mut Vec<u8>) -> Result<(), NoMemory>
+    #[inline(never)]
+    pub fn resync(&mut self, outbox: &mut Outbox, out: &mut Lines) -> Result<(), NoMemory>
         ensures follows { OnOk result ((e : Ends) → EndsStand self.old e
-            → Follows (submission after_resync e.manager e) e self.old self.new out.old.items out.new.items) }
+            → Follows (submission after_resync e.manager e) e self.old self.new out.old out.new) }
     {
         let Some(manager) = &mut self.manager else {
             return self.show(&Effect::NotEnabled, out);
@@ -252,9 +257,10 @@ impl Machine {
     }
 
     /// The manager begins an audit of the unit's alarms.
-    pub fn audit(&mut self, outbox: &mut Outbox, out: &mut Vec<u8>) -> Result<(), NoMemory>
+    #[inline(never)]
+    pub fn audit(&mut self, outbox: &mut Outbox, out: &mut Lines) -> Result<(), NoMemory>
         ensures follows { OnOk result ((e : Ends) → EndsStand self.old e
-            → Follows (submission after_audit e.manager e) e self.old self.new out.old.items out.new.items) }
+            → Follows (submission after_audit e.manager e) e self.old self.new out.old out.new) }
     {
         let Some(manager) = &mut self.manager else {
             return self.show(&Effect::NotEnabled, out);
@@ -268,17 +274,19 @@ impl Machine {
     }
 
     /// The manager begins a download of an image into a slot of the unit.
+    #[inline(never)]
     pub fn image(
         &mut self,
         order: &Order,
         image: &[u8],
         outbox: &mut Outbox,
-        out: &mut Vec<u8>,
+        out: &mut Lines,
     ) -> Result<(), NoMemory>
         requires slot { order.now.slot < 2 }
         requires window { IsWindow order.now.window }
         ensures follows { OnOk result ((e : Ends) → EndsStand self.old e
-            → Follows (submission (after_image order.now.slot order.now.window order.now.crc image.now) e.manager e) e self.old self.new out.old.items out.new.items) }
+            → Follows (submission (after_image order.now.slot order.now.window order.now.crc
+            image.now) e.manager e) e self.old self.new out.old out.new) }
     {
         let Some(manager) = &mut self.manager else {
             return self.show(&Effect::NotEnabled, out);
@@ -305,10 +313,10 @@ impl Machine {
         &mut self,
         bytes: &[u8],
         packets: &mut Packets,
-        out: &mut Vec<u8>,
+        out: &mut Lines,
     ) -> Result<(), NoMemory>
         ensures follows { OnOk result ((e : Ends) → EndsStand self.old e
-            → Follows (manager_got [] bytes.now e.manager e) e self.old self.new out.old.items out.new.items) }
+            → Follows (manager_got [] bytes.now e.manager e) e self.old self.new out.old out.new) }
     {
         let Some(manager) = &mut self.manager else {
             return self.show(&Effect::NotEnabled, out);
@@ -320,9 +328,9 @@ impl Machine {
     }
 
     /// A second passes for the manager.
-    pub fn tick_manager(&mut self, outbox: &mut Outbox, out: &mut Vec<u8>) -> Result<(), NoMemory>
+    pub fn tick_manager(&mut self, outbox: &mut Outbox, out: &mut Lines) -> Result<(), NoMemory>
         ensures follows { OnOk result ((e : Ends) → EndsStand self.old e
-            → Follows (manager_ticks e.manager e) e self.old self.new out.old.items out.new.items) }
+            → Follows (manager_ticks e.manager e) e self.old self.new out.old out.new) }
     {
         let Some(manager) = &mut self.manager else {
             return Ok(());

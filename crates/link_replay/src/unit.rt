@@ -31,6 +31,7 @@ use replay_script::Header;
 use slot_disk::{MemDisk, Trap};
 use slot_spec::{HEADER_BYTES, Pick};
 use std::alloc::Global;
+use trace_lines::{Lines, push_carried_line};
 use unit_spec::Noticed;
 use world_spec::Effect;
 
@@ -107,9 +108,9 @@ impl Machine {
     }
 
     /// The unit's next life, which finds the link empty, and its line.
-    fn wake(&mut self, boot: Boot, out: &mut Vec<u8>) -> Result<(), NoMemory>
+    fn wake(&mut self, boot: Boot, out: &mut Lines) -> Result<(), NoMemory>
         ensures follows { OnOk result ((e : Ends) (s : SlotPair) → OffStands self.old e s
-            → Follows (unit_starts boot s e) e self.old self.new out.old.items out.new.items) }
+            → Follows (unit_starts boot s e) e self.old self.new out.old out.new) }
     {
         self.start_agent(boot)?;
         self.link.empty();
@@ -118,9 +119,9 @@ impl Machine {
     }
 
     /// Appends the line of the unit's present life, where it is on.
-    pub fn start_line(&self, out: &mut Vec<u8>) -> Result<(), NoMemory>
+    pub fn start_line(&self, out: &mut Lines) -> Result<(), NoMemory>
         ensures line { OnOk result ((e : Ends) → EndsStand self.now e
-            → out.new.items ≡ out.old.items ++ life_text e.event e.lives e.unit) }
+            → out.new ≡ out.old ++ life_text e.event e.lives e.unit) }
     {
         let Some(agent) = &self.agent else {
             return Ok(());
@@ -148,11 +149,11 @@ impl Machine {
     // ---- what comes to the unit
 
     /// Tells what the unit did with a packet: its reply goes up.
-    fn tell_did(&mut self, did: Did, reply: &Packet, out: &mut Vec<u8>) -> Result<(), NoMemory>
+    fn tell_did(&mut self, did: Did, reply: &Packet, out: &mut Lines) -> Result<(), NoMemory>
         requires whole { did ≢ done.Dropped → did ≢ done.Held → length reply.now ≡ 48 }
         ensures machine { OnOk result
             (self.new ≡ record self.old { held = did_held did reply.now self.old.held }) }
-        ensures lines { OnOk result (out.new.items ≡ out.old.items
+        ensures lines { OnOk result (out.new ≡ out.old
             ++ did_text self.old.event self.old.held.count self.old.lives did reply.now) }
     {
         match did {
@@ -163,7 +164,7 @@ impl Machine {
                 self.send(Direction::Up, reply, out)
             }
             Did::Carried { note } => {
-                self.show(&Effect::Carried { life: self.lives }, out)?;
+                push_carried_line(out, self.event, self.lives)?;
                 if let Some(note) = note {
                     self.show(&Effect::Noted(note), out)?;
                 }
@@ -177,10 +178,10 @@ impl Machine {
         &mut self,
         bytes: &[u8],
         reply: &mut Packet,
-        out: &mut Vec<u8>,
+        out: &mut Lines,
     ) -> Result<(), NoMemory>
         ensures follows { OnOk result ((e : Ends) → EndsStand self.old e
-            → Follows (unit_got [] bytes.now e.unit e) e self.old self.new out.old.items out.new.items) }
+            → Follows (unit_got [] bytes.now e.unit e) e self.old self.new out.old out.new) }
     {
         let Some(agent) = &mut self.agent else {
             return self.show(&Effect::NotEnabled, out);
@@ -191,17 +192,18 @@ impl Machine {
     }
 
     /// Tells what became of what the unit noticed: its notice goes up.
+    #[inline(never)]
     fn tell_noticed(
         &mut self,
         noticed: Noticed,
         packet: &Packet,
-        out: &mut Vec<u8>,
+        out: &mut Lines,
     ) -> Result<(), NoMemory>
         requires whole { noticed ≡ Sent → length packet.now ≡ 48 }
         ensures machine { OnOk result (self.new ≡ record self.old {
           held = held_read (notice_sent noticed packet.now) self.old.held;
         }) }
-        ensures lines { OnOk result (out.new.items ≡ out.old.items
+        ensures lines { OnOk result (out.new ≡ out.old
             ++ lines_text self.old.event self.old.held.count (notice_sent noticed packet.now)) }
     {
         match noticed {
@@ -212,16 +214,18 @@ impl Machine {
     }
 
     /// The unit measures an attribute's value.
+    #[inline(never)]
     pub fn sense(
         &mut self,
         entity: EntityId,
         number: u8,
         value: &[u8],
         outbox: &mut Outbox,
-        out: &mut Vec<u8>,
+        out: &mut Lines,
     ) -> Result<(), NoMemory>
         ensures follows { OnOk result ((e : Ends) → EndsStand self.old e
-            → Follows (unit_notices (onu_sensed entity number value.now) e.unit e) e self.old self.new out.old.items out.new.items) }
+            → Follows (unit_notices (onu_sensed entity number value.now) e.unit e) e self.old
+            self.new out.old out.new) }
     {
         let Some(agent) = &mut self.agent else {
             return self.show(&Effect::NotEnabled, out);
@@ -232,15 +236,17 @@ impl Machine {
     }
 
     /// The unit notices an entity's alarms.
+    #[inline(never)]
     pub fn alarm(
         &mut self,
         entity: EntityId,
         bitmap: [u8; BITMAP_BYTES],
         outbox: &mut Outbox,
-        out: &mut Vec<u8>,
+        out: &mut Lines,
     ) -> Result<(), NoMemory>
         ensures follows { OnOk result ((e : Ends) → EndsStand self.old e
-            → Follows (unit_notices (onu_alarmed entity bitmap) e.unit e) e self.old self.new out.old.items out.new.items) }
+            → Follows (unit_notices (onu_alarmed entity bitmap) e.unit e) e self.old self.new
+            out.old out.new) }
     {
         let Some(agent) = &mut self.agent else {
             return self.show(&Effect::NotEnabled, out);
@@ -253,9 +259,9 @@ impl Machine {
     // ---- seconds
 
     /// A second passes for the unit. One that leaves starts again.
-    fn tick_unit(&mut self, out: &mut Vec<u8>) -> Result<(), NoMemory>
+    fn tick_unit(&mut self, out: &mut Lines) -> Result<(), NoMemory>
         ensures follows { OnOk result ((e : Ends) → EndsStand self.old e
-            → Follows (unit_ticks e.unit e) e self.old self.new out.old.items out.new.items) }
+            → Follows (unit_ticks e.unit e) e self.old self.new out.old out.new) }
     {
         let Some(agent) = &mut self.agent else {
             return Ok(());
@@ -270,9 +276,10 @@ impl Machine {
     }
 
     /// A second passes.
-    pub fn second(&mut self, outbox: &mut Outbox, out: &mut Vec<u8>) -> Result<(), NoMemory>
+    #[inline(never)]
+    pub fn second(&mut self, outbox: &mut Outbox, out: &mut Lines) -> Result<(), NoMemory>
         ensures follows { OnOk result ((e : Ends) → EndsStand self.old e
-            → Follows (second e) e self.old self.new out.old.items out.new.items) }
+            → Follows (second e) e self.old self.new out.old out.new) }
     {
         self.tick_manager(outbox, out)?;
         self.tick_unit(out)?;
@@ -283,6 +290,7 @@ impl Machine {
 
     /// Bytes come to the unit, and its power goes at that device call, or after them where it makes
     /// fewer. Nothing is answered.
+    #[inline(never)]
     pub fn cut_amid(
         &mut self,
         call: u64,
@@ -309,9 +317,10 @@ impl Machine {
     }
 
     /// The unit's power goes.
-    pub fn cut_unit(&mut self, out: &mut Vec<u8>) -> Result<(), NoMemory>
+    #[inline(never)]
+    pub fn cut_unit(&mut self, out: &mut Lines) -> Result<(), NoMemory>
         ensures follows { OnOk result ((e : Ends) → EndsStand self.old e
-            → Follows (cut_unit e.unit e) e self.old self.new out.old.items out.new.items) }
+            → Follows (cut_unit e.unit e) e self.old self.new out.old out.new) }
     {
         if self.agent.is_none() {
             return self.show(&Effect::NotEnabled, out);
@@ -321,9 +330,10 @@ impl Machine {
     }
 
     /// The manager's power goes.
-    pub fn cut_manager(&mut self, out: &mut Vec<u8>) -> Result<(), NoMemory>
+    #[inline(never)]
+    pub fn cut_manager(&mut self, out: &mut Lines) -> Result<(), NoMemory>
         ensures follows { OnOk result ((e : Ends) → EndsStand self.old e
-            → Follows (cut_manager e.manager e) e self.old self.new out.old.items out.new.items) }
+            → Follows (cut_manager e.manager e) e self.old self.new out.old out.new) }
     {
         if self.manager.is_none() {
             return self.show(&Effect::NotEnabled, out);
@@ -333,9 +343,10 @@ impl Machine {
     }
 
     /// The unit starts its next life, and finds the link empty.
-    pub fn start_unit(&mut self, out: &mut Vec<u8>) -> Result<(), NoMemory>
+    #[inline(never)]
+    pub fn start_unit(&mut self, out: &mut Lines) -> Result<(), NoMemory>
         ensures follows { OnOk result ((e : Ends) → EndsStand self.old e
-            → Follows (start_unit e.unit e) e self.old self.new out.old.items out.new.items) }
+            → Follows (start_unit e.unit e) e self.old self.new out.old out.new) }
     {
         if self.agent.is_some() {
             return self.show(&Effect::NotEnabled, out);
@@ -345,11 +356,12 @@ impl Machine {
     }
 
     /// The manager starts with these numbers of its lanes, and finds the link empty.
-    pub fn start_manager(&mut self, low: u16, high: u16, out: &mut Vec<u8>) -> Result<(), NoMemory>
+    #[inline(never)]
+    pub fn start_manager(&mut self, low: u16, high: u16, out: &mut Lines) -> Result<(), NoMemory>
         requires low { IsNumber low }
         requires high { IsNumber high }
         ensures follows { OnOk result ((e : Ends) → EndsStand self.old e
-            → Follows (start_manager low high e.manager e) e self.old self.new out.old.items out.new.items) }
+            → Follows (start_manager low high e.manager e) e self.old self.new out.old out.new) }
     {
         if self.manager.is_some() {
             return self.show(&Effect::NotEnabled, out);

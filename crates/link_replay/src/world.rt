@@ -8,22 +8,23 @@ ghost use Rattle.link_spec.specs.Held.{held_of};
 ghost use Rattle.world_spec.specs.Ends.{Ends};
 ghost use Rattle.world_spec.specs.Nodes.{Nodes, first_nodes, acted, step, nodes_after};
 ghost use Rattle.world_spec.specs.Trace.{turn_text, trace};
-ghost use Rattle.link_replay.specs.Writing.{WritesSome, WritesFront, EndsRun};
+ghost use Rattle.trace_lines.specs.Writing.{WritesSome, WritesFront, EndsRun};
 ghost use Rattle.replay_script.specs.Events.{action_of, header_of};
-ghost use Rattle.link_replay.specs.Seen.{Stands, WorldStands, EndsStand, Follows, life_text, asked_by as asked_of};
+ghost use Rattle.link_replay.specs.Seen.{Stands, WorldStands, EndsStand, Follows, life_text};
+ghost use Rattle.link_replay.specs.Seen.{asked_by as asked_of};
 
 use crate::asked::asked_by;
-use crate::lines::Lines;
 use crate::machine::{Machine, Order, Outbox};
-use crate::writing::{RunFault, write_all, write_piece};
 use link_spec::Direction;
 use omci_core::{NoMemory, Sink, filled};
 use replay_script::{Event, Header, Script};
 use std::alloc::Global;
 use std::marker::Model;
+use trace_lines::{Lines, RunFault, write_all, write_piece};
 
-/// Both ends over a simulated link. [`step`](World::step) and [`run`](World::run) alone change it. Where memory runs out in one
-/// of them, the world is spent: each later call of them answers `NoMemory`.
+/// Both ends over a simulated link. [`step`](World::step) and [`run`](World::run) alone change it.
+/// Where memory runs out in one of them, the world is spent: each later call of them answers
+/// `NoMemory`.
 #[derive(Drop)]
 pub struct World {
     spent: bool,
@@ -41,10 +42,12 @@ impl Model for World {
 
 impl Machine {
     /// Does what an event asks for.
-    fn act(&mut self, event: &Event, outbox: &mut Outbox, out: &mut Vec<u8>) -> Result<(), NoMemory>
+    fn act(&mut self, event: &Event, outbox: &mut Outbox, out: &mut Lines) -> Result<(), NoMemory>
         requires ranges { IsAction (action_of event.now) }
-        ensures follows { OnOk result ((e : Ends) → EndsStand self.old e → (l : Link) → self.old.held ≡ held_of l
-            → Follows (acted (action_of event.now) (record { ends = e; link = l })) e self.old self.new out.old.items out.new.items) }
+        ensures follows { OnOk result ((e : Ends) → EndsStand self.old e
+            → (l : Link) → self.old.held ≡ held_of l
+            → Follows (acted (action_of event.now) (record { ends = e; link = l })) e
+            self.old self.new out.old out.new) }
     {
         match asked_by(event) {
             Some(asked) => self.submit(&asked, outbox, out)?,
@@ -59,12 +62,14 @@ impl Machine {
         &mut self,
         event: &Event,
         outbox: &mut Outbox,
-        out: &mut Vec<u8>,
+        out: &mut Lines,
     ) -> Result<(), NoMemory>
         requires ranges { IsAction (action_of event.now) }
         requires apart { asked_of (action_of event.now) ≡ None }
-        ensures follows { OnOk result ((e : Ends) → EndsStand self.old e → (l : Link) → self.old.held ≡ held_of l
-            → Follows (acted (action_of event.now) (record { ends = e; link = l })) e self.old self.new out.old.items out.new.items) }
+        ensures follows { OnOk result ((e : Ends) → EndsStand self.old e
+            → (l : Link) → self.old.held ≡ held_of l
+            → Follows (acted (action_of event.now) (record { ends = e; link = l })) e
+            self.old self.new out.old out.new) }
     {
         match event {
             Event::Probe { lane } => self.probe(*lane, outbox, out)?,
@@ -108,17 +113,13 @@ impl Machine {
     }
 
     /// Runs one event: it is counted, and what it asks for is done.
-    fn turn(
-        &mut self,
-        event: &Event,
-        outbox: &mut Outbox,
-        out: &mut Vec<u8>,
-    ) -> Result<(), NoMemory>
+    fn turn(&mut self, event: &Event, outbox: &mut Outbox, out: &mut Lines) -> Result<(), NoMemory>
         requires few { self.old.event + 1 < 2 ^ 64 }
         requires ranges { IsAction (action_of event.now) }
-        ensures nodes { OnOk result ((n : Nodes) → Stands self.old n → Stands self.new (step (action_of event.now) n).nodes) }
+        ensures nodes { OnOk result ((n : Nodes) → Stands self.old n
+            → Stands self.new (step (action_of event.now) n).nodes) }
         ensures lines { OnOk result ((n : Nodes) → Stands self.old n
-            → out.new.items ≡ out.old.items ++ turn_text n (step (action_of event.now) n)) }
+            → out.new ≡ out.old ++ turn_text n (step (action_of event.now) n)) }
     {
         self.event += 1;
         self.act(event, outbox, out)?;
@@ -146,17 +147,18 @@ impl World {
         self.machine.event
     }
 
-    /// Appends the line of the unit's present life, where it is on: which slots are active and committed, and what they hold.
+    /// Appends the line of the unit's present life, where it is on: which slots are active and
+    /// committed, and what they hold.
     pub fn start_line(&self, out: &mut Lines) -> Result<(), NoMemory>
         ensures line { OnOk result ((n : Nodes) → Stands self.now.seen n
             → out.new ≡ out.old ++ life_text n.ends.event n.ends.lives n.ends.unit) }
     {
-        self.machine.start_line(&mut out.text)?;
+        self.machine.start_line(out)?;
         Ok(())
     }
 
-    /// Runs one event, and appends its lines. For all nodes that the world stands for before, it stands for those after the event's
-    /// step afterwards.
+    /// Runs one event, and appends its lines. For all nodes that the world stands for before, it
+    /// stands for those after the event's step afterwards.
     pub fn step(&mut self, event: &Event, out: &mut Lines) -> Result<(), NoMemory>
         requires few { self.old.seen.event + 1 < 2 ^ 64 }
         requires ranges { IsAction (action_of event.now) }
@@ -170,7 +172,7 @@ impl World {
         if self.spent {
             return Err(NoMemory);
         }
-        match self.machine.turn(event, &mut self.outbox, &mut out.text) {
+        match self.machine.turn(event, &mut self.outbox, out) {
             Ok(()) => Ok(()),
             Err(error) => {
                 self.spent = true;
@@ -191,10 +193,12 @@ impl World {
         ensures nodes { OnOk result ((n : Nodes) → Stands self.old.seen n
             → WorldStands self.new (step (action_of event.now) n).nodes) }
         ensures written { OnOk result ((n : Nodes) → Stands self.old.seen n → WritesSome
-            (lines.old ++ turn_text n (step (action_of event.now) n)) (K.written sink.old) (K.written sink.new) lines.new) }
+            (lines.old ++ turn_text n (step (action_of event.now) n))
+            (K.written sink.old) (K.written sink.new) lines.new) }
         ensures kept { OnOk result (K.faults sink.new ≡ K.faults sink.old) }
         ensures front { OnErr result ((n : Nodes) → Stands self.old.seen n → WritesFront
-            (lines.old ++ turn_text n (step (action_of event.now) n)) (K.written sink.old) (K.written sink.new)) }
+            (lines.old ++ turn_text n (step (action_of event.now) n))
+            (K.written sink.old) (K.written sink.new)) }
         ensures cause { IfErr result (λ e. EndsRun e (K.faults sink.old) (K.faults sink.new)) }
     {
         self.step(event, lines)?;
@@ -202,14 +206,18 @@ impl World {
         Ok(())
     }
 
-    /// Runs all events of a script, and writes the trace. The world must be as [`new`](World::new) made it of the script's header.
-    /// After a fault a front of the trace was written; `Write` where the sink failed.
+    /// Runs all events of a script, and writes the trace. The world must be as [`new`](World::new)
+    /// made it of the script's header. After a fault a front of the trace was written; `Write`
+    /// where the sink failed.
     pub fn run<K: Sink>(&mut self, script: &Script, sink: &mut K) -> Result<(), RunFault>
         requires begun { WorldStands self.old (first_nodes script.now.header) }
-        ensures traced { OnOk result (Appends (K.written sink.old) (K.written sink.new) (trace script.now)) }
-        ensures nodes { OnOk result (WorldStands self.new (nodes_after script.now.actions (first_nodes script.now.header))) }
+        ensures traced { OnOk result
+            (Appends (K.written sink.old) (K.written sink.new) (trace script.now)) }
+        ensures nodes { OnOk result (WorldStands self.new
+            (nodes_after script.now.actions (first_nodes script.now.header))) }
         ensures kept { OnOk result (K.faults sink.new ≡ K.faults sink.old) }
-        ensures front { OnErr result (WritesFront (trace script.now) (K.written sink.old) (K.written sink.new)) }
+        ensures front { OnErr result
+            (WritesFront (trace script.now) (K.written sink.old) (K.written sink.new)) }
         ensures cause { IfErr result (λ e. EndsRun e (K.faults sink.old) (K.faults sink.new)) }
     {
         let mut lines = Lines::new(self.machine.alloc);

@@ -1,4 +1,5 @@
--- What is held of a link: how many packets were sent, the last of them, and the ways. The link's answers need no more.
+-- What is held of a link: how many packets were sent, the last of them, and the ways. The link's
+-- answers need no more.
 use Rattle.std.specs.Prelude.{ℕ, ◌+◌, ◌-◌, Bool, if◌then◌else◌, nat_le, List, [], ◌∷◌, ◌++◌, length, slice_get, Option, Some, None}
 use Rattle.circular_buffer.specs.Buffer.{keep_last}
 use Rattle.link_spec.specs.declared.TheConstants.{WINDOW}
@@ -23,7 +24,8 @@ first_held h = h.count - length h.last
 
 -- the packet of that number, where it is held
 abbrev pub held_packet : ℕ → Held → Option Sent
-held_packet number h = if nat_le (first_held h) number then slice_get h.last (number - first_held h) else None
+held_packet number h = if nat_le (first_held h) number then slice_get h.last (number - first_held h)
+    else None
 
 -- a packet goes onto the link
 unfoldable pub held_sent : Sent → Held → Held
@@ -47,7 +49,8 @@ held_after number h = held_carried number (held_allowed number h) h
 
 -- the oldest fresh packet
 unfoldable pub held_fresh : Bool → Bool → Held → Option ℕ
-held_fresh unit_on manager_on h = first_fresh unit_on manager_on (first_held h) h.last h.ways h.count
+held_fresh unit_on manager_on h = first_fresh unit_on manager_on (first_held h) h.last h.ways
+    h.count
 
 -- an end starts
 abbrev pub held_emptied : Held → Held

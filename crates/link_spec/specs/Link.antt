@@ -1,4 +1,5 @@
--- The link: every packet that was ever sent, and for each direction and lane how far its deliveries have come.
+-- The link: every packet that was ever sent, and for each direction and lane how far its deliveries
+-- have come.
 use Rattle.std.specs.Prelude.{ℕ, ◌+◌, ◌&&◌, Bool, true, false, if◌then◌else◌, nat_le, List, [], ◌∷◌, ◌++◌, length, slice_get, Option, Some, None, max}
 use Rattle.omci_types.specs.declared.Priority.{Priority}
 use Rattle.omci_types.specs.declared.Priority.TheVariants.{Low, High}
@@ -46,7 +47,12 @@ way_from number = record { floor = number; mark = number }
 
 abbrev pub ways_from : ℕ → Ways
 ways_from number =
-    record { down_low = way_from number; down_high = way_from number; up_low = way_from number; up_high = way_from number }
+    record {
+      down_low = way_from number;
+      down_high = way_from number;
+      up_low = way_from number;
+      up_high = way_from number;
+    }
 
 -- a direction, named by whether it is down
 abbrev pub direction_if : (down : Bool) → Direction
@@ -121,7 +127,8 @@ is_heard Up unit_on manager_on = manager_on
 -- a packet is fresh where its receiver is on, and it is at or past its way's mark and may come
 abbrev pub is_fresh : Bool → Bool → ℕ → Sent → Ways → ℕ → Bool
 is_fresh unit_on manager_on number s ways count =
-    is_heard s.direction unit_on manager_on && nat_le (way_of s ways).mark number && may_come number (way_of s ways) count
+    is_heard s.direction unit_on manager_on && nat_le (way_of s ways).mark number
+    && may_come number (way_of s ways) count
 
 -- the first fresh packet of these, which begin at that number
 abbrev pub first_fresh : Bool → Bool → ℕ → List Sent → Ways → ℕ → Option ℕ

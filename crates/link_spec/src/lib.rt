@@ -1,5 +1,5 @@
-//! The link between the two ends: the packets that were sent over it, and how far the deliveries have come. Plain types and
-//! definitions alone.
+//! The link between the two ends: the packets that were sent over it, and how far the deliveries
+//! have come. Plain types and definitions alone.
 #![tactic(auto)]
 
 /// A packet is forgotten once so many were sent after it.

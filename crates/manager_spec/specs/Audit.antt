@@ -1,5 +1,5 @@
--- An audit of the alarms (ITU-T G.988, get all alarms, in this profile): the unit is asked to put its
--- alarms by, and their rows are gathered one after the other; notices that come meanwhile wait.
+-- An audit of the alarms (ITU-T G.988, get all alarms, in this profile): the unit is asked to put
+-- its alarms by, and their rows are gathered one after the other; notices that come meanwhile wait.
 use Rattle.std.specs.Prelude.{ℕ, ◌+◌, Bool, true, false, nat_le, List, [], ◌∷◌, length, Option, Some, None}
 use Rattle.omci_types.specs.declared.EntityId.{EntityId}
 use Rattle.omci_types.specs.declared.Frame.{Frame}
@@ -77,10 +77,13 @@ notice_taken one bitmap m =
 
 -- what the table makes of a notice is reported
 abbrev pub alarm_as : TakenAlarm → EntityId → List ℕ → (number : ℕ) → Manager → Outcome
-alarm_as taken.Unaudited one bitmap number m = sends_nothing (with_report (report.AlarmUnaudited number) m)
-alarm_as taken.Repeat one bitmap number m = sends_nothing (with_report (report.AlarmRepeat number) m)
+alarm_as taken.Unaudited one bitmap number m =
+    sends_nothing (with_report (report.AlarmUnaudited number) m)
+alarm_as taken.Repeat one bitmap number m =
+    sends_nothing (with_report (report.AlarmRepeat number) m)
 alarm_as (taken.Gap want have) one bitmap number m =
-    sends_nothing (audit_lost m.job (reason.Gap want have) (with_report (report.AlarmGap want have) m))
+    sends_nothing (audit_lost m.job (reason.Gap want have)
+    (with_report (report.AlarmGap want have) m))
 alarm_as taken.Overflow one bitmap number m =
     sends_nothing (audit_lost m.job reason.Overflow (with_report (report.AlarmOverflow number) m))
 alarm_as taken.Taken one bitmap number m =
@@ -89,7 +92,8 @@ alarm_as taken.Taken one bitmap number m =
 -- an alarm notice of the entity came
 unfoldable pub alarm_came : EntityId → List ℕ → (number : ℕ) → Manager → Outcome
 alarm_came one bitmap number m =
-    alarm_as (take_answer number m.table) one bitmap number (with_table (after_take one bitmap number m.table) m)
+    alarm_as (take_answer number m.table) one bitmap number
+    (with_table (after_take one bitmap number m.table) m)
 
 -- a notice of the entity came, in this frame; that of a value changes nothing
 abbrev pub notice_came : EntityId → Notice → Frame → Manager → Outcome

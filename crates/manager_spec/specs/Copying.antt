@@ -1,4 +1,5 @@
--- What the reply to a change does to the manager's copy: what the change did to the unit's database.
+-- What the reply to a change does to the manager's copy: what the change did to the unit's
+-- database.
 use Rattle.std.specs.Prelude.{ℕ, ◌==◌, Bool, true, false}
 use Rattle.std.specs.Option.{option_map}
 use Rattle.omci_types.specs.declared.EntityId.{EntityId}

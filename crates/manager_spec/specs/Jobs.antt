@@ -1,5 +1,5 @@
--- A job that runs, be it a resynchronisation, an audit or a download: what it waits for, how a give-up
--- ends it, and what it sends next.
+-- A job that runs, be it a resynchronisation, an audit or a download: what it waits for, how a
+-- give-up ends it, and what it sends next.
 use Rattle.std.specs.Prelude.{ℕ, ◌&&◌, Bool, true, false, is_none, Option, Some, None}
 use Rattle.omci_types.specs.declared.Priority.{Priority}
 use Rattle.omci_types.specs.declared.Priority.TheVariants.{Low, High}

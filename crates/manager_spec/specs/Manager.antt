@@ -1,4 +1,5 @@
--- The manager with its two lanes, its copy of the unit's database, its table of alarms, and the job that runs.
+-- The manager with its two lanes, its copy of the unit's database, its table of alarms, and the job
+-- that runs.
 use Rattle.std.specs.Prelude.{ℕ, Bool, true, List, [], ◌∷◌, ◌++◌, Option, None}
 use Rattle.std.specs.List.{flat_map}
 use Rattle.omci_types.specs.declared.Priority.{Priority}
@@ -40,8 +41,9 @@ pub data Stage : Type 0 where
   -- the end is sent anew with the next second
   DelayingEnd : (order : Order) (image : List ℕ) (busy : ℕ) → Stage
 
--- the two lanes, the phase, the copy of the last resynchronisation with the changes since, the table
--- of alarms, the stage of the job that runs, and the reports that wait to be taken out, oldest first
+-- the two lanes, the phase, the copy of the last resynchronisation with the changes since, the
+-- table of alarms, the stage of the job that runs, and the reports that wait to be taken out,
+-- oldest first
 pub record Manager : Type 0 where
   pub low : Lane
   pub high : Lane

@@ -1,5 +1,5 @@
--- Resynchronisation (ITU-T G.988, clause I.1.3, in this profile): both lanes are probed, the unit is
--- asked to put its database by, and its pieces are gathered one after the other into a new copy.
+-- Resynchronisation (ITU-T G.988, clause I.1.3, in this profile): both lanes are probed, the unit
+-- is asked to put its database by, and its pieces are gathered one after the other into a new copy.
 use Rattle.std.specs.Prelude.{ℕ, ◌+◌, Bool, true, false, nat_le, List, length, is_some, Option, Some, None}
 use Rattle.omci_types.specs.declared.Priority.{Priority}
 use Rattle.omci_types.specs.declared.Priority.TheVariants.{Low, High}
@@ -64,8 +64,10 @@ gather_on expected next copy m = gather_unless_all (nat_le expected next) expect
 abbrev pub piece_by : Option PieceFault → (expected next : ℕ) → List ℕ → Copy → Manager → Manager
 piece_by None expected next piece copy m = gather_on expected (next + 1) (with_piece piece copy) m
 piece_by (Some fault.Empty) expected next piece copy m = resync_failed reason.Empty m
-piece_by (Some (fault.ClassUnknown class)) expected next piece copy m = gather_on expected (next + 1) copy m
-piece_by (Some (fault.Truncated one)) expected next piece copy m = resync_failed (reason.Truncated one) m
+piece_by (Some (fault.ClassUnknown class)) expected next piece copy m =
+    gather_on expected (next + 1) copy m
+piece_by (Some (fault.Truncated one)) expected next piece copy m =
+    resync_failed (reason.Truncated one) m
 piece_by (Some (fault.Repeated one attribute)) expected next piece copy m =
     resync_failed (reason.Repeated one attribute) m
 

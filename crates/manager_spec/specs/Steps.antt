@@ -141,20 +141,23 @@ row_by_reply (Some (response.AlarmsNext row)) expected next f m = row_came expec
 row_by_reply _ expected next f m = freed f m
 
 -- the reply that grants a download
-abbrev pub start_by_reply : Option Response → Order → (asked : ℕ) → List ℕ → Frame → Manager → Manager
+abbrev pub start_by_reply : Option Response → Order → (asked : ℕ) → List ℕ → Frame → Manager
+    → Manager
 start_by_reply (Some (response.Start code window)) order asked image f m =
     image_started code.0 window order asked image m
 start_by_reply _ order asked image f m = freed f m
 
 -- the reply to a window
-abbrev pub window_by_reply : Option Response → Order → Outgoing → (resent : ℕ) → Frame → Manager → Manager
+abbrev pub window_by_reply : Option Response → Order → Outgoing → (resent : ℕ) → Frame → Manager
+    → Manager
 window_by_reply (Some (response.Section code number)) order outgoing resent f m =
     window_answered code.0 order outgoing resent m
 window_by_reply _ order outgoing resent f m = freed f m
 
 -- the reply to a download's end
 abbrev pub end_by_reply : Option Response → Order → List ℕ → (busy : ℕ) → Frame → Manager → Manager
-end_by_reply (Some (response.End code)) order image busy f m = end_answered code.0 order image busy m
+end_by_reply (Some (response.End code)) order image busy f m =
+    end_answered code.0 order image busy m
 end_by_reply _ order image busy f m = freed f m
 
 -- the reply that the job waits for
@@ -191,13 +194,15 @@ not_taken (Ok (Asked tci entity r)) f m = packet_dropped m
 not_taken (Ok (Answered tci entity r)) f m = packet_dropped m
 not_taken (Err fault) f m = packet_dropped m
 
--- The outstanding command is answered, and its lane is free; then the job goes on. Beside replies notices are taken.
+-- The outstanding command is answered, and its lane is free; then the job goes on. Beside replies
+-- notices are taken.
 abbrev pub take_if : Bool → Option Waiting → Priority → Frame → Manager → Outcome
 take_if false o lane f m = not_taken (message_of f) f m
 take_if true None lane f m = not_taken (message_of f) f m
 take_if true (Some w) lane f m =
     and_then
-    (taken_as w.command.purpose lane w.command f (with_lane lane (lane_reply f (lane_in lane m)).lane m))
+    (taken_as w.command.purpose lane w.command f
+    (with_lane lane (lane_reply f (lane_in lane m)).lane m))
     job_goes_on
 
 abbrev pub frame_came : Priority → Frame → Manager → Outcome
@@ -214,7 +219,8 @@ after_packet bytes m = for_frame (packet_frame bytes) m
 
 -- ---- a second passes
 
--- after a give-up a job that waited for the lane has failed; without one a change may have been lost
+-- after a give-up a job that waited for the lane has failed; without one a change may have been
+-- lost
 abbrev pub loss_seen : (waits changes : Bool) → (tci : ℕ) → Manager → Manager
 loss_seen true changes tci m = job_lost m.job tci m
 loss_seen false true tci m = leave_step m

@@ -1,4 +1,5 @@
--- What is asked of the manager: probes, submissions, checks, resynchronisations, audits and downloads, and when each is refused.
+-- What is asked of the manager: probes, submissions, checks, resynchronisations, audits and
+-- downloads, and when each is refused.
 use Rattle.std.specs.Prelude.{ℕ, Bool, true, false, if◌then◌else◌, List, [], ◌∷◌, Option, Some, None}
 use Rattle.omci_types.specs.declared.EntityId.{EntityId}
 use Rattle.frame_spec.specs.Checksum.{crc}
@@ -76,7 +77,8 @@ job_in_the_way lane r m = if goes_beside lane r then None else job_running m
 
 abbrev pub changing_by : Option Waiting → Option Refusal
 changing_by None = None
-changing_by (Some w) = if is_changing w.command.request then Some (ChangeOutstanding w.tci) else None
+changing_by (Some w) = if is_changing w.command.request then Some (ChangeOutstanding w.tci)
+    else None
 
 -- a change is outstanding in the other lane
 abbrev pub other_change : Priority → Manager → Option Refusal
@@ -108,7 +110,8 @@ abbrev pub probe_refusal : Priority → Manager → Option Refusal
 probe_refusal lane m = first_refusal (occupied lane m ∷ job_running m ∷ [])
 
 unfoldable pub after_probe : Priority → Manager → Submission
-after_probe lane m = unless_refused (probe_refusal lane m) (command_sent false lane probe_command m) m
+after_probe lane m = unless_refused (probe_refusal lane m) (command_sent false lane probe_command m)
+    m
 
 -- ---- a request for an entity
 
@@ -185,7 +188,8 @@ audit_refusal m = first_refusal (unproven Low m ∷ occupied Low m ∷ job_runni
 -- all of the unit's alarms are asked for, whatever the mode of reporting
 abbrev pub audit_asked : Manager → Outcome
 audit_asked m =
-    command_sent true Low (job_command sync_entity (request.Alarms 0)) (with_job (Some AskingAlarms) m)
+    command_sent true Low (job_command sync_entity (request.Alarms 0))
+    (with_job (Some AskingAlarms) m)
 
 unfoldable pub after_audit : Manager → Submission
 after_audit m = unless_refused (audit_refusal m) (audit_asked m) m

@@ -55,13 +55,16 @@ image_done order m = with_report (report.ImageDone order.slot) (with_job None (c
 
 -- ---- what a reply does
 
-abbrev pub started_if : Bool → (number granted : ℕ) → Order → (asked : ℕ) → List ℕ → Manager → Manager
+abbrev pub started_if : Bool → (number granted : ℕ) → Order → (asked : ℕ) → List ℕ → Manager
+    → Manager
 started_if true number granted order asked image m =
-    with_job (Some (SendingImage order (new_outgoing image (min asked granted)) 0)) (counted_in_step m)
+    with_job (Some (SendingImage order (new_outgoing image (min asked granted)) 0))
+    (counted_in_step m)
 started_if false number granted order asked image m = refused_by number m
 
 -- the reply to the start came: windows have no more sections than were asked and than are granted
-unfoldable pub image_started : (number granted : ℕ) → Order → (asked : ℕ) → List ℕ → Manager → Manager
+unfoldable pub image_started : (number granted : ℕ) → Order → (asked : ℕ) → List ℕ → Manager
+    → Manager
 image_started number granted order asked image m =
     started_if (number == SUCCESS.0) number granted order asked image m
 
@@ -70,7 +73,8 @@ abbrev pub window_taken : Bool → Order → Outgoing → Manager → Manager
 window_taken true order o m = with_job (Some (EndingImage order o.image 0)) m
 window_taken false order o m = with_job (Some (SendingImage order (after_window o) 0)) m
 
-abbrev pub window_refused : Bool → (number : ℕ) → Order → Outgoing → (resent : ℕ) → Manager → Manager
+abbrev pub window_refused : Bool → (number : ℕ) → Order → Outgoing → (resent : ℕ) → Manager
+    → Manager
 window_refused true number order o resent m = with_job (Some (SendingImage order o (resent + 1))) m
 window_refused false number order o resent m = refused_by number m
 
@@ -93,7 +97,8 @@ abbrev pub end_delayed : Order → List ℕ → (times : ℕ) → Manager → Ma
 end_delayed order image times m =
     busy_if (nat_le times MOST_BUSY) order image times (with_report (report.Busy times) m)
 
-abbrev pub end_by : (done busy : Bool) → (number : ℕ) → Order → List ℕ → (times : ℕ) → Manager → Manager
+abbrev pub end_by : (done busy : Bool) → (number : ℕ) → Order → List ℕ → (times : ℕ) → Manager
+    → Manager
 end_by true busy number order image times m = image_done order m
 end_by false true number order image times m = end_delayed order image (times + 1) m
 end_by false false number order image times m = refused_by number m

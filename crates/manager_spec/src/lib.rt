@@ -1,5 +1,5 @@
-//! What the manager (the OLT end) is, and what it does with a submission, a packet and a second. Plain types and definitions
-//! alone.
+//! What the manager (the OLT end) is, and what it does with a submission, a packet and a second.
+//! Plain types and definitions alone.
 #![tactic(auto)]
 
 use omci_types::{Code, EntityId, Frame, Priority};
@@ -70,12 +70,13 @@ pub enum AuditReason {
 pub enum ImageReason {
     /// A command that it waited for was given up.
     GaveUp { tci: u16 },
-    /// A command was answered by this code: its start; its end, where the code isn't busy or came so
-    /// once too often; or a window, once more than it is sent anew.
+    /// A command was answered by this code: its start; its end, where the code isn't busy or came
+    /// so once too often; or a window, once more than it is sent anew.
     Code { code: Code },
 }
 
-/// Why a command was not submitted. Nothing was sent, and nothing has changed. They are tested in this order.
+/// Why a command was not submitted. Nothing was sent, and nothing has changed. They are tested in
+/// this order.
 #[derive(Clone, Copy, Debug, PartialEq, Eq)]
 pub enum Refusal {
     /// The lane has not been proved since the manager started, or since it gave a command up.
@@ -127,7 +128,8 @@ pub enum Report {
     AlarmTaken { number: u8 },
     /// The alarm notice that was taken last came again.
     AlarmRepeat { number: u8 },
-    /// An alarm notice came with another number than the wanted one, and the table is no longer audited.
+    /// An alarm notice came with another number than the wanted one, and the table is no longer
+    /// audited.
     AlarmGap { want: u8, have: u8 },
     /// An alarm notice came that can't wait, and the table is no longer audited.
     AlarmOverflow { number: u8 },

@@ -12,23 +12,23 @@ fn an_audit_reads_every_row(rt: HostRuntime) -> Result<(), Fail> {
     let unproven = Err(Refusal::Unproven {
         lane: Priority::Low,
     });
-    assert_eq!(rt; olt.manager.audit(&mut olt.out), unproven);
-    let _probed = olt.manager.probe(Priority::Low, &mut olt.out);
+    assert_eq!(rt; olt.audit(), unproven);
+    let _probed = olt.probe(Priority::Low);
     assert!(rt; olt.answers(1, ONU_DATA, counter_answer(Code::SUCCESS, 0)));
-    let _proved = olt.manager.report();
-    assert_eq!(rt; olt.manager.audit(&mut olt.out), Ok(()));
-    assert!(rt; olt.out.len() == 1 && olt.sends(0, 2, ONU_DATA, Request::Alarms { mode: 0 }));
-    assert_eq!(rt; olt.manager.job(), Some(Job::Audit));
+    let _proved = olt.report();
+    assert_eq!(rt; olt.audit(), Ok(()));
+    assert!(rt; olt.sent() == 1 && olt.sends(0, 2, ONU_DATA, Request::Alarms { mode: 0 }));
+    assert_eq!(rt; olt.job(), Some(Job::Audit));
     let occupied = Err(Refusal::Occupied { tci: 2 });
-    assert_eq!(rt; olt.manager.audit(&mut olt.out), occupied);
+    assert_eq!(rt; olt.audit(), occupied);
     assert!(rt; olt.answers(2, ONU_DATA, Response::Alarms { count: 1 }));
-    assert!(rt; olt.out.len() == 1);
+    assert!(rt; olt.sent() == 1);
     assert!(rt; olt.sends(0, 3, ONU_DATA, Request::AlarmsNext { number: 0 }));
     assert!(rt; olt.answers(3, ONU_DATA, Response::AlarmsNext { row: row(1, 0x80) }));
-    assert!(rt; olt.out.is_empty() && olt.manager.idle());
+    assert!(rt; olt.is_quiet() && olt.idle());
     assert!(rt; olt.reports(&[Report::Audited { rows: 1 }]));
     assert_eq!(rt; olt.only_alarm(), Some((entity(11, 1), 0x80)));
-    assert_eq!(rt; olt.manager.phase(), Phase::New);
+    assert_eq!(rt; olt.phase(), Phase::New);
     Ok(())
 }
 
@@ -61,7 +61,7 @@ fn notices_keep_the_table_until_one_is_lost(rt: HostRuntime) -> Result<(), Fail>
     assert!(rt; tells_all(&mut olt, &[(1, 0x80, 1), (1, 0x40, 2)]));
     assert_eq!(rt; olt.only_alarm(), Some((entity(11, 1), 0x40)));
     assert!(rt; tells_all(&mut olt, &[(2, 0x80, 4), (1, 0, 3)]));
-    assert!(rt; olt.out.is_empty());
+    assert!(rt; olt.is_quiet());
     assert!(rt;
         olt.reports(&[
             Report::AlarmTaken { number: 1 },
@@ -81,7 +81,7 @@ fn notices_wait_for_the_rows(rt: HostRuntime) -> Result<(), Fail> {
     assert!(rt; olt.tells(entity(11, 2), alarm(0, 1)));
     assert!(rt; olt.tells(entity(11, 3), alarm(0x20, 2)));
     assert!(rt; olt.tells(entity(11, 1), alarm(0, 3)));
-    assert!(rt; olt.only_alarm().is_none() && olt.manager.job().is_some());
+    assert!(rt; olt.only_alarm().is_none() && olt.job().is_some());
     assert!(rt; olt.answers(4, ONU_DATA, Response::AlarmsNext { row: row(2, 0x40) }));
     assert!(rt;
         olt.reports(&[
@@ -99,9 +99,9 @@ fn notices_wait_for_the_rows(rt: HostRuntime) -> Result<(), Fail> {
 fn a_gap_before_the_reply_ends_the_job(rt: HostRuntime) -> Result<(), Fail> {
     let mut olt = Harness::audited(rt.alloc(), 1, &[row(1, 0x80)])?;
     assert!(rt; olt.reports(&[Report::Audited { rows: 1 }]));
-    assert_eq!(rt; olt.manager.audit(&mut olt.out), Ok(()));
+    assert_eq!(rt; olt.audit(), Ok(()));
     assert!(rt; olt.tells(entity(11, 2), alarm(0x80, 5)));
-    assert!(rt; olt.out.is_empty() && olt.manager.job().is_none());
+    assert!(rt; olt.is_quiet() && olt.job().is_none());
     assert!(rt;
         olt.reports(&[
             Report::AlarmGap { want: 1, have: 5 },
@@ -110,9 +110,9 @@ fn a_gap_before_the_reply_ends_the_job(rt: HostRuntime) -> Result<(), Fail> {
             },
         ])
     );
-    assert!(rt; !olt.manager.idle());
+    assert!(rt; !olt.idle());
     assert!(rt; olt.answers(4, ONU_DATA, Response::Alarms { count: 1 }));
-    assert!(rt; olt.out.is_empty() && olt.manager.idle());
+    assert!(rt; olt.is_quiet() && olt.idle());
     assert!(rt; olt.reports(&[Report::Freed { tci: 4 }]));
     assert_eq!(rt; olt.only_alarm(), Some((entity(11, 1), 0x80)));
     Ok(())
@@ -139,7 +139,7 @@ fn a_lost_row_ends_the_job(rt: HostRuntime) -> Result<(), Fail> {
     let mut olt = Harness::audited(rt.alloc(), 2, &[row(1, 0x80)])?;
     for _second in 0..8u8 {
         assert!(rt; olt.ticks());
-        assert!(rt; olt.manager.job().is_some());
+        assert!(rt; olt.job().is_some());
     }
     assert!(rt; olt.ticks());
     assert!(rt;
@@ -150,7 +150,7 @@ fn a_lost_row_ends_the_job(rt: HostRuntime) -> Result<(), Fail> {
             },
         ])
     );
-    assert!(rt; olt.manager.idle() && olt.manager.phase() == Phase::New);
+    assert!(rt; olt.idle() && olt.phase() == Phase::New);
     Ok(())
 }
 
@@ -159,7 +159,7 @@ fn no_more_than_255_notices_wait(rt: HostRuntime) -> Result<(), Fail> {
     let mut olt = Harness::audited(rt.alloc(), 1, &[])?;
     for number in 1..=255u8 {
         assert!(rt; olt.tells(entity(11, 1), alarm(0x80, number)));
-        assert_eq!(rt; olt.manager.report(), Some(Report::AlarmTaken { number }));
+        assert_eq!(rt; olt.report(), Some(Report::AlarmTaken { number }));
     }
     assert!(rt; olt.tells(entity(11, 1), alarm(0x80, 1)));
     assert!(rt;
@@ -191,6 +191,6 @@ fn a_changed_value_leaves_the_copy(rt: HostRuntime) -> Result<(), Fail> {
         }])
     );
     assert_eq!(rt; olt.copy(), Some((7, 1)));
-    assert_eq!(rt; olt.manager.phase(), Phase::InStep);
+    assert_eq!(rt; olt.phase(), Phase::InStep);
     Ok(())
 }

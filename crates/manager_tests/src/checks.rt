@@ -10,8 +10,8 @@ use std::test::Fail;
 fn equal_counters_stay_in_step(rt: HostRuntime) -> Result<(), Fail> {
     let mut olt = Harness::in_step(rt.alloc(), 7)?;
     olt.out.clear();
-    assert_eq!(rt; olt.manager.check(&mut olt.out), Ok(()));
-    assert!(rt; olt.out.len() == 1 && olt.sends(0, 4, ONU_DATA, GET_COUNTER));
+    assert_eq!(rt; olt.check(), Ok(()));
+    assert!(rt; olt.sent() == 1 && olt.sends(0, 4, ONU_DATA, GET_COUNTER));
     assert!(rt; olt.answers(4, ONU_DATA, counter_answer(Code::SUCCESS, 7)));
     assert!(rt;
         olt.reports(&[Report::Checked {
@@ -19,14 +19,14 @@ fn equal_counters_stay_in_step(rt: HostRuntime) -> Result<(), Fail> {
             expected: 7,
         }])
     );
-    assert_eq!(rt; olt.manager.phase(), Phase::InStep);
+    assert_eq!(rt; olt.phase(), Phase::InStep);
     Ok(())
 }
 
 #[test]
 fn other_counters_leave_the_step(rt: HostRuntime) -> Result<(), Fail> {
     let mut olt = Harness::in_step(rt.alloc(), 7)?;
-    let _sent = olt.manager.check(&mut olt.out);
+    let _sent = olt.check();
     assert!(rt; olt.answers(4, ONU_DATA, counter_answer(Code::SUCCESS, 9)));
     assert!(rt;
         olt.reports(&[
@@ -37,16 +37,16 @@ fn other_counters_leave_the_step(rt: HostRuntime) -> Result<(), Fail> {
             Report::PhaseOut,
         ])
     );
-    assert_eq!(rt; olt.manager.phase(), Phase::Out);
+    assert_eq!(rt; olt.phase(), Phase::Out);
     Ok(())
 }
 
 #[test]
 fn a_refused_check_leaves_the_step(rt: HostRuntime) -> Result<(), Fail> {
     let mut olt = Harness::in_step(rt.alloc(), 7)?;
-    let _sent = olt.manager.check(&mut olt.out);
+    let _sent = olt.check();
     assert!(rt; olt.answers(4, ONU_DATA, counter_answer(Code::PROCESSING_ERROR, 7)));
-    let Some(Report::Took { reply }) = olt.manager.report() else {
+    let Some(Report::Took { reply }) = olt.report() else {
         panic!(rt; "the reply is not handed on");
     };
     assert_eq!(rt; reply.tci, 4);
@@ -132,6 +132,6 @@ fn the_copy_follows_what_had_code_0(rt: HostRuntime) -> Result<(), Fail> {
             "at {tci}"
         );
     }
-    assert_eq!(rt; olt.manager.phase(), Phase::InStep);
+    assert_eq!(rt; olt.phase(), Phase::InStep);
     Ok(())
 }

@@ -47,9 +47,9 @@ fn begin(olt: &mut Harness, alloc: Global) -> Result<(), Refusal> {
 /// A manager that isn't in step and has asked for a download under TCI 2. No report waits.
 fn asked(alloc: Global) -> Result<Harness, NoMemory> {
     let mut olt = Harness::new(alloc)?;
-    let _probed = olt.manager.probe(Priority::Low, &mut olt.out);
+    let _probed = olt.probe(Priority::Low);
     olt.answer(1, ONU_DATA, counter_answer(Code::SUCCESS, 0))?;
-    let _proved = olt.manager.report();
+    let _proved = olt.report();
     let _begun = begin(&mut olt, alloc);
     Ok(olt)
 }
@@ -92,7 +92,7 @@ fn sent(number: u8, count: usize, last: bool) -> Request {
 
 /// Whether the last call sent the whole image as one window, under this TCI.
 fn sends_all(olt: &Harness, tci: u16) -> bool {
-    olt.out.len() == 3
+    olt.sent() == 3
         && olt.sends(0, tci, SLOT, sent(0, 31, false))
         && olt.sends(1, tci, SLOT, sent(1, 31, false))
         && olt.sends(2, tci, SLOT, sent(2, 1, true))
@@ -100,33 +100,33 @@ fn sends_all(olt: &Harness, tci: u16) -> bool {
 
 /// Whether the last call sent the end alone, under this TCI.
 fn sends_end(olt: &Harness, tci: u16) -> bool {
-    olt.out.len() == 1 && olt.sends(0, tci, SLOT, END)
+    olt.sent() == 1 && olt.sends(0, tci, SLOT, END)
 }
 
 /// Whether a download has failed by this code, after these reports, and nothing is sent.
 fn has_failed(olt: &mut Harness, code: Code) -> bool {
     let reason = ImageReason::Code { code };
     olt.reports(&[Report::ImageFailed { reason }])
-        && olt.out.is_empty()
-        && olt.manager.idle()
-        && olt.manager.phase() == Phase::New
+        && olt.is_quiet()
+        && olt.idle()
+        && olt.phase() == Phase::New
 }
 
 #[test]
 fn an_image_goes_out_in_the_windows_that_are_granted(rt: HostRuntime) -> Result<(), Fail> {
     let mut olt = asked(rt.alloc())?;
-    assert!(rt; olt.out.len() == 1 && olt.sends(0, 2, SLOT, START));
-    assert_eq!(rt; olt.manager.job(), Some(Job::Image));
+    assert!(rt; olt.sent() == 1 && olt.sends(0, 2, SLOT, START));
+    assert_eq!(rt; olt.job(), Some(Job::Image));
     let code = Code::SUCCESS;
     assert!(rt; olt.answers(2, SLOT, Response::Start { code, window: 2 }));
-    assert!(rt; olt.out.len() == 2 && olt.sends(0, 3, SLOT, sent(0, 31, false)));
+    assert!(rt; olt.sent() == 2 && olt.sends(0, 3, SLOT, sent(0, 31, false)));
     assert!(rt; olt.sends(1, 3, SLOT, sent(1, 31, true)));
     assert!(rt; olt.answers(3, SLOT, section(code)));
-    assert!(rt; olt.out.len() == 1 && olt.sends(0, 4, SLOT, sent(0, 1, true)));
+    assert!(rt; olt.sent() == 1 && olt.sends(0, 4, SLOT, sent(0, 1, true)));
     assert!(rt; olt.answers(4, SLOT, section(code)));
     assert!(rt; sends_end(&olt, 5));
     assert!(rt; olt.answers(5, SLOT, Response::End { code }));
-    assert!(rt; olt.out.is_empty() && olt.manager.idle());
+    assert!(rt; olt.is_quiet() && olt.idle());
     assert!(rt; olt.reports(&[Report::ImageDone { slot: 1 }]));
     Ok(())
 }
@@ -177,7 +177,7 @@ fn is_asked_again(olt: &mut Harness, times: u8) -> bool {
     for count in 1..=times {
         let tci = u16::from(count).saturating_add(3);
         let code = Code::BUSY;
-        if !olt.answers(tci, SLOT, Response::End { code }) || !olt.out.is_empty() {
+        if !olt.answers(tci, SLOT, Response::End { code }) || !olt.is_quiet() {
             return false;
         }
         if !olt.reports(&[Report::Busy { times: count }]) || !olt.ticks() {
@@ -196,10 +196,10 @@ fn a_busy_unit_is_asked_again_sixty_times(rt: HostRuntime) -> Result<(), Fail> {
     assert!(rt; sends_end(&olt, 4) && is_asked_again(&mut olt, 60));
     let code = Code::BUSY;
     assert!(rt; olt.answers(64, SLOT, Response::End { code }));
-    assert_eq!(rt; olt.manager.report(), Some(Report::Busy { times: 61 }));
+    assert_eq!(rt; olt.report(), Some(Report::Busy { times: 61 }));
     assert!(rt; has_failed(&mut olt, code));
     assert!(rt; olt.ticks());
-    assert!(rt; olt.out.is_empty());
+    assert!(rt; olt.is_quiet());
     Ok(())
 }
 
@@ -209,7 +209,7 @@ fn an_end_that_was_busy_may_be_done(rt: HostRuntime) -> Result<(), Fail> {
     assert!(rt; is_asked_again(&mut olt, 2));
     let code = Code::SUCCESS;
     assert!(rt; olt.answers(6, SLOT, Response::End { code }));
-    assert!(rt; olt.reports(&[Report::ImageDone { slot: 1 }]) && olt.manager.idle());
+    assert!(rt; olt.reports(&[Report::ImageDone { slot: 1 }]) && olt.idle());
     Ok(())
 }
 
@@ -252,7 +252,7 @@ fn start_and_end_are_counted_in_step(rt: HostRuntime) -> Result<(), Fail> {
     assert_eq!(rt; olt.copy(), Some((255, 1)));
     assert!(rt; olt.answers(6, SLOT, Response::End { code }));
     assert_eq!(rt; olt.copy(), Some((1, 1)));
-    assert_eq!(rt; olt.manager.phase(), Phase::InStep);
+    assert_eq!(rt; olt.phase(), Phase::InStep);
     Ok(())
 }
 
@@ -282,7 +282,7 @@ fn a_window_given_up_leaves_the_step(rt: HostRuntime) -> Result<(), Fail> {
             Report::PhaseOut,
         ])
     );
-    assert!(rt; olt.manager.job().is_none() && olt.manager.phase() == Phase::Out);
+    assert!(rt; olt.job().is_none() && olt.phase() == Phase::Out);
     Ok(())
 }
 
@@ -291,7 +291,7 @@ fn a_window_is_repeated_whole(rt: HostRuntime) -> Result<(), Fail> {
     let mut olt = granted(rt.alloc(), 4)?;
     assert!(rt; olt.ticks());
     assert!(rt; olt.ticks());
-    assert!(rt; olt.out.is_empty());
+    assert!(rt; olt.is_quiet());
     assert!(rt; olt.ticks());
     assert!(rt; sends_all(&olt, 3));
     Ok(())
@@ -303,7 +303,7 @@ fn a_download_is_refused_beside_a_change(rt: HostRuntime) -> Result<(), Fail> {
     assert!(rt; olt.submits(Priority::High, entity(7, 0), Request::Commit));
     let change = Err(Refusal::ChangeOutstanding { tci: 0x8002 });
     assert_eq!(rt; begin(&mut olt, rt.alloc()), change);
-    assert!(rt; olt.out.is_empty() && olt.manager.job().is_none());
+    assert!(rt; olt.is_quiet() && olt.job().is_none());
     Ok(())
 }
 

@@ -1,7 +1,11 @@
-//! A manager, what it sent last, and the unit's replies as they are made by hand.
+//! A manager, what it sent last, and the unit's replies as they are made by hand. The tests call
+//! the manager by methods that promise nothing, so that the proof of a test doesn't carry what each
+//! call says.
+
+ghost use Rattle.message_spec.specs.Reading.{RequestWindow};
 
 pub use class_spec::ONU_DATA;
-use olt_manager::{AuditReason, Manager, Phase, Report, ResyncReason};
+use olt_manager::{AuditReason, Job, Manager, Phase, Refusal, Report, ResyncReason};
 use omci_contents::{
     Message, Notice, Request, Response, has_valid_window, read_message, write_message,
 };
@@ -141,6 +145,65 @@ impl Harness {
             tci = tci.wrapping_add(1);
         }
         Ok(olt)
+    }
+
+    /// A lane is probed.
+    pub fn probe(&mut self, lane: Priority) -> Result<(), Refusal> {
+        self.manager.probe(lane, &mut self.out)
+    }
+
+    /// A resynchronisation is asked for.
+    pub fn resync(&mut self) -> Result<(), Refusal> {
+        self.manager.resync(&mut self.out)
+    }
+
+    /// A check is asked for.
+    pub fn check(&mut self) -> Result<(), Refusal> {
+        self.manager.check(&mut self.out)
+    }
+
+    /// An audit is asked for.
+    pub fn audit(&mut self) -> Result<(), Refusal> {
+        self.manager.audit(&mut self.out)
+    }
+
+    /// A request is submitted over a lane.
+    pub fn submit(
+        &mut self,
+        lane: Priority,
+        entity: EntityId,
+        request: Request,
+    ) -> Result<(), Refusal>
+        requires window { RequestWindow request }
+    {
+        self.manager.submit(lane, entity, request, &mut self.out)
+    }
+
+    /// The next report, which is taken out.
+    pub fn report(&mut self) -> Option<Report> {
+        self.manager.report()
+    }
+
+    pub fn phase(&self) -> Phase {
+        self.manager.phase()
+    }
+
+    pub fn job(&self) -> Option<Job> {
+        self.manager.job()
+    }
+
+    pub fn idle(&self) -> bool {
+        self.manager.idle()
+    }
+
+    /// How many packets the last call sent.
+    pub fn sent(&self) -> usize {
+        self.out.len()
+    }
+
+    /// Whether the last call sent nothing.
+    pub fn is_quiet(&self) -> bool {
+        self.out.is_empty()
     }
 
     /// The unit answers under this TCI.

@@ -15,61 +15,38 @@ fn a_lane_is_proved_and_free_first(rt: HostRuntime) -> Result<(), Fail> {
         lane: Priority::Low,
     });
     let occupied = Err(Refusal::Occupied { tci: 1 });
-    assert_eq!(rt;
-        olt.manager
-            .submit(Priority::Low, ONU_DATA, CREATE, &mut olt.out),
-        unproven
-    );
-    assert_eq!(rt; olt.manager.check(&mut olt.out), unproven);
-    assert_eq!(rt; olt.manager.probe(Priority::Low, &mut olt.out), Ok(()));
-    assert!(rt; olt.out.len() == 1);
-    assert_eq!(rt;
-        olt.manager
-            .submit(Priority::Low, ONU_DATA, CREATE, &mut olt.out),
-        unproven
-    );
-    assert_eq!(rt; olt.manager.probe(Priority::Low, &mut olt.out), occupied);
-    assert_eq!(rt; olt.manager.resync(&mut olt.out), occupied);
-    assert!(rt; olt.out.len() == 1);
+    assert_eq!(rt; olt.submit(Priority::Low, ONU_DATA, CREATE), unproven);
+    assert_eq!(rt; olt.check(), unproven);
+    assert_eq!(rt; olt.probe(Priority::Low), Ok(()));
+    assert!(rt; olt.sent() == 1);
+    assert_eq!(rt; olt.submit(Priority::Low, ONU_DATA, CREATE), unproven);
+    assert_eq!(rt; olt.probe(Priority::Low), occupied);
+    assert_eq!(rt; olt.resync(), occupied);
+    assert!(rt; olt.sent() == 1);
     assert!(rt; olt.answers(1, ONU_DATA, counter_answer(Code::SUCCESS, 0)));
     let new = Err(Refusal::OutOfStep { phase: Phase::New });
-    assert_eq!(rt;
-        olt.manager
-            .submit(Priority::Low, ONU_DATA, CREATE, &mut olt.out),
-        new
-    );
-    assert_eq!(rt; olt.manager.check(&mut olt.out), new);
+    assert_eq!(rt; olt.submit(Priority::Low, ONU_DATA, CREATE), new);
+    assert_eq!(rt; olt.check(), new);
     assert!(rt; olt.submits(Priority::Low, ONU_DATA, GET_COUNTER));
     let occupied = Err(Refusal::Occupied { tci: 2 });
-    assert_eq!(rt;
-        olt.manager
-            .submit(Priority::Low, ONU_DATA, CREATE, &mut olt.out),
-        occupied
-    );
-    assert_eq!(rt; olt.manager.check(&mut olt.out), occupied);
+    assert_eq!(rt; olt.submit(Priority::Low, ONU_DATA, CREATE), occupied);
+    assert_eq!(rt; olt.check(), occupied);
     Ok(())
 }
 
 #[test]
 fn a_get_in_the_high_lane_goes_beside_a_job(rt: HostRuntime) -> Result<(), Fail> {
     let mut olt = Harness::new(rt.alloc())?;
-    let _begun = olt.manager.resync(&mut olt.out);
+    let _begun = olt.resync();
     assert!(rt; olt.answers(0x8001, ONU_DATA, counter_answer(Code::SUCCESS, 0)));
     let running = Err(Refusal::JobRunning { job: Job::Resync });
-    assert_eq!(rt; olt.manager.probe(Priority::High, &mut olt.out), running);
-    let reset = olt
-        .manager
-        .submit(Priority::High, ONU_DATA, Request::Reset, &mut olt.out);
+    assert_eq!(rt; olt.probe(Priority::High), running);
+    let reset = olt.submit(Priority::High, ONU_DATA, Request::Reset);
     assert_eq!(rt; reset, running);
-    let create = olt
-        .manager
-        .submit(Priority::High, entity(272, 5), CREATE, &mut olt.out);
+    let create = olt.submit(Priority::High, entity(272, 5), CREATE);
     assert_eq!(rt; create, Err(Refusal::OutOfStep { phase: Phase::New }));
     assert!(rt; olt.submits(Priority::High, ONU_DATA, GET_COUNTER));
-    assert_eq!(rt;
-        olt.manager.resync(&mut olt.out),
-        Err(Refusal::Occupied { tci: 0x8002 })
-    );
+    assert_eq!(rt; olt.resync(), Err(Refusal::Occupied { tci: 0x8002 }));
     assert!(rt; olt.answers(1, ONU_DATA, counter_answer(Code::SUCCESS, 0)));
     assert!(rt; olt.sends(0, 2, ONU_DATA, Request::Upload));
     Ok(())
@@ -80,10 +57,8 @@ fn one_change_is_outstanding_at_a_time(rt: HostRuntime) -> Result<(), Fail> {
     let mut olt = Harness::in_step(rt.alloc(), 7)?;
     assert!(rt; olt.submits(Priority::High, entity(272, 5), CREATE));
     let change = Err(Refusal::ChangeOutstanding { tci: 0x8002 });
-    assert_eq!(rt; olt.manager.check(&mut olt.out), change);
-    let second = olt
-        .manager
-        .submit(Priority::Low, entity(7, 1), Request::Commit, &mut olt.out);
+    assert_eq!(rt; olt.check(), change);
+    let second = olt.submit(Priority::Low, entity(7, 1), Request::Commit);
     assert_eq!(rt; second, change);
     assert!(rt; olt.submits(Priority::Low, ONU_DATA, GET_COUNTER));
     assert!(rt;
@@ -104,11 +79,9 @@ fn one_change_is_outstanding_at_a_time(rt: HostRuntime) -> Result<(), Fail> {
 fn a_reset_leaves_the_step(rt: HostRuntime) -> Result<(), Fail> {
     let mut olt = Harness::in_step(rt.alloc(), 7)?;
     assert!(rt; olt.submits(Priority::Low, ONU_DATA, Request::Reset));
-    assert!(rt; olt.reports(&[Report::PhaseOut]) && olt.out.len() == 1);
+    assert!(rt; olt.reports(&[Report::PhaseOut]) && olt.sent() == 1);
     let out = Err(Refusal::OutOfStep { phase: Phase::Out });
-    let create = olt
-        .manager
-        .submit(Priority::High, entity(272, 5), CREATE, &mut olt.out);
+    let create = olt.submit(Priority::High, entity(272, 5), CREATE);
     assert_eq!(rt; create, out);
     assert_eq!(rt; olt.copy(), Some((7, 1)));
     Ok(())

@@ -12,22 +12,22 @@ use std::test::Fail;
 #[test]
 fn both_probes_come_before_the_upload(rt: HostRuntime) -> Result<(), Fail> {
     let mut olt = Harness::new(rt.alloc())?;
-    assert!(rt; olt.manager.idle() && olt.copy().is_none());
-    assert_eq!(rt; olt.manager.resync(&mut olt.out), Ok(()));
-    assert!(rt; olt.out.len() == 2);
+    assert!(rt; olt.idle() && olt.copy().is_none());
+    assert_eq!(rt; olt.resync(), Ok(()));
+    assert!(rt; olt.sent() == 2);
     assert!(rt; olt.sends(0, 0x8001, ONU_DATA, GET_COUNTER));
     assert!(rt; olt.sends(1, 1, ONU_DATA, GET_COUNTER));
-    assert_eq!(rt; olt.manager.job(), Some(Job::Resync));
-    assert!(rt; !olt.manager.idle());
+    assert_eq!(rt; olt.job(), Some(Job::Resync));
+    assert!(rt; !olt.idle());
     assert!(rt; olt.answers(1, ONU_DATA, counter_answer(Code::UNKNOWN_CLASS, 9)));
-    assert!(rt; olt.out.is_empty());
+    assert!(rt; olt.is_quiet());
     assert!(rt;
         olt.reports(&[Report::Proved {
             lane: Priority::Low
         }])
     );
     assert!(rt; olt.answers(0x8001, entity(45, 1), Response::Delete { code: Code::BUSY }));
-    assert!(rt; olt.out.len() == 1 && olt.sends(0, 2, ONU_DATA, Request::Upload));
+    assert!(rt; olt.sent() == 1 && olt.sends(0, 2, ONU_DATA, Request::Upload));
     assert!(rt;
         olt.reports(&[Report::Proved {
             lane: Priority::High
@@ -39,8 +39,8 @@ fn both_probes_come_before_the_upload(rt: HostRuntime) -> Result<(), Fail> {
 #[test]
 fn three_pieces_make_the_copy(rt: HostRuntime) -> Result<(), Fail> {
     let mut olt = Harness::probed(rt.alloc())?;
-    let _high = olt.manager.report();
-    let _low = olt.manager.report();
+    let _high = olt.report();
+    let _low = olt.report();
     assert!(rt; olt.answers(2, ONU_DATA, Response::Upload { count: 3 }));
     for (number, piece) in [
         counter_piece(7),
@@ -52,11 +52,11 @@ fn three_pieces_make_the_copy(rt: HostRuntime) -> Result<(), Fail> {
     {
         let number = number as u16;
         assert!(rt; olt.sends(0, number + 3, ONU_DATA, Request::UploadNext { number }));
-        assert_eq!(rt; olt.manager.phase(), Phase::New);
+        assert_eq!(rt; olt.phase(), Phase::New);
         assert!(rt; olt.answers(number + 3, ONU_DATA, Response::UploadNext { piece: *piece }));
     }
-    assert!(rt; olt.out.is_empty() && olt.manager.idle());
-    assert_eq!(rt; olt.manager.phase(), Phase::InStep);
+    assert!(rt; olt.is_quiet() && olt.idle());
+    assert_eq!(rt; olt.phase(), Phase::InStep);
     assert!(rt;
         olt.reports(&[
             Report::Synced {
@@ -124,7 +124,7 @@ fn each_fault_of_a_piece_ends_the_job(rt: HostRuntime) -> Result<(), Fail> {
 #[test]
 fn a_lost_probe_ends_the_job(rt: HostRuntime) -> Result<(), Fail> {
     let mut olt = Harness::in_step(rt.alloc(), 7)?;
-    assert_eq!(rt; olt.manager.resync(&mut olt.out), Ok(()));
+    assert_eq!(rt; olt.resync(), Ok(()));
     assert!(rt; olt.ticks());
     assert!(rt; olt.ticks());
     assert!(rt; olt.reports(&[]));
@@ -141,7 +141,7 @@ fn a_lost_probe_ends_the_job(rt: HostRuntime) -> Result<(), Fail> {
     );
     assert_eq!(rt; olt.copy(), Some((7, 1)));
     assert!(rt; olt.answers(4, ONU_DATA, counter_answer(Code::SUCCESS, 7)));
-    assert!(rt; olt.out.is_empty() && olt.manager.idle());
+    assert!(rt; olt.is_quiet() && olt.idle());
     assert!(rt;
         olt.reports(&[Report::Proved {
             lane: Priority::Low
@@ -155,7 +155,7 @@ fn a_lost_piece_ends_the_job(rt: HostRuntime) -> Result<(), Fail> {
     let mut olt = Harness::gathered(rt.alloc(), 2, &[counter_piece(7)])?;
     for _second in 0..8u8 {
         assert!(rt; olt.ticks());
-        assert!(rt; olt.manager.job().is_some());
+        assert!(rt; olt.job().is_some());
     }
     assert!(rt; olt.ticks());
     assert!(rt;
@@ -166,7 +166,7 @@ fn a_lost_piece_ends_the_job(rt: HostRuntime) -> Result<(), Fail> {
             },
         ])
     );
-    assert_eq!(rt; olt.manager.phase(), Phase::Out);
+    assert_eq!(rt; olt.phase(), Phase::Out);
     assert!(rt;
         olt.answers(
             4,

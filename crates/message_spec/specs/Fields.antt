@@ -81,7 +81,8 @@ put at bytes contents = with_bytes_at at bytes contents
 abbrev pub put_values : List Field → List Value → List ℕ → List ℕ
 put_values [] values contents = contents
 put_values (f ∷ fields) [] contents = contents
-put_values (f ∷ fields) (v ∷ values) contents = put_values fields values (put (place f) (value_bytes f.form v) contents)
+put_values (f ∷ fields) (v ∷ values) contents =
+    put_values fields values (put (place f) (value_bytes f.form v) contents)
 
 -- contents of padding alone
 unfoldable pub padding : List ℕ

@@ -75,7 +75,8 @@ message_with kinds.Alarm tci entity v = Told tci entity (alarm_with v)
 message_with kinds.Change tci entity v = Told tci entity (change_with v)
 
 abbrev pub message_typed : Frame → Result Kind ContentsFault → Result Message ContentsFault
-message_typed f (Ok kind) = Ok (message_with kind f.tci f.entity (values_at (layout kind) f.contents))
+message_typed f (Ok kind) =
+    Ok (message_with kind f.tci f.entity (values_at (layout kind) f.contents))
 message_typed f (Err fault) = Err fault
 
 -- the message that reads a frame, or why there is none

@@ -22,9 +22,11 @@ request_values (requests.AlarmsNext number) = Number number ∷ []
 request_values requests.Upload = []
 request_values (requests.UploadNext number) = Number number ∷ []
 request_values requests.Reset = []
-request_values (requests.Start window size targets target) = Number window ∷ Number size ∷ Number targets ∷ Number target ∷ []
+request_values (requests.Start window size targets target) = Number window ∷ Number size
+    ∷ Number targets ∷ Number target ∷ []
 request_values (requests.Section number bytes last) = Number number ∷ Bytes bytes ∷ []
-request_values (requests.End crc size targets target) = Number crc ∷ Number size ∷ Number targets ∷ Number target ∷ []
+request_values (requests.End crc size targets target) = Number crc ∷ Number size ∷ Number targets
+    ∷ Number target ∷ []
 request_values (requests.Activate flags) = Number flags ∷ []
 request_values requests.Commit = []
 request_values (requests.Reboot flags) = Number flags ∷ []
@@ -66,9 +68,11 @@ request_with AlarmsNext v = requests.AlarmsNext (nth_number 0 v)
 request_with Upload v = requests.Upload
 request_with UploadNext v = requests.UploadNext (nth_number 0 v)
 request_with Reset v = requests.Reset
-request_with Start v = requests.Start (nth_number 0 v) (nth_number 1 v) (nth_number 2 v) (nth_number 3 v)
+request_with Start v = requests.Start (nth_number 0 v) (nth_number 1 v) (nth_number 2 v)
+    (nth_number 3 v)
 request_with Section v = section_with true v
-request_with End v = requests.End (nth_number 0 v) (nth_number 1 v) (nth_number 2 v) (nth_number 3 v)
+request_with End v = requests.End (nth_number 0 v) (nth_number 1 v) (nth_number 2 v)
+    (nth_number 3 v)
 request_with Activate v = requests.Activate (nth_number 0 v)
 request_with Commit v = requests.Commit
 request_with Reboot v = requests.Reboot (nth_number 0 v)

@@ -30,8 +30,10 @@ response_action (responses.Reboot code) = Reboot
 abbrev pub response_values : Response → List Value
 response_values (responses.Create code mask) = Number code.0 ∷ Number mask ∷ []
 response_values (responses.Delete code) = Number code.0 ∷ []
-response_values (responses.Set code unsupported failed) = Number code.0 ∷ Number unsupported ∷ Number failed ∷ []
-response_values (responses.Get code mask values unsupported failed) = Number code.0 ∷ Number mask ∷ Bytes values ∷ Number unsupported ∷ Number failed ∷ []
+response_values (responses.Set code unsupported failed) = Number code.0 ∷ Number unsupported
+    ∷ Number failed ∷ []
+response_values (responses.Get code mask values unsupported failed) = Number code.0 ∷ Number mask
+    ∷ Bytes values ∷ Number unsupported ∷ Number failed ∷ []
 response_values (responses.Alarms count) = Number count ∷ []
 response_values (responses.AlarmsNext row) = Bytes row ∷ []
 response_values (responses.Upload count) = Number count ∷ []
@@ -53,7 +55,8 @@ abbrev pub response_with : Action → List Value → Response
 response_with Create v = responses.Create (code_at 0 v) (nth_number 1 v)
 response_with Delete v = responses.Delete (code_at 0 v)
 response_with Set v = responses.Set (code_at 0 v) (nth_number 1 v) (nth_number 2 v)
-response_with Get v = responses.Get (code_at 0 v) (nth_number 1 v) (nth_bytes 2 v) (nth_number 3 v) (nth_number 4 v)
+response_with Get v = responses.Get (code_at 0 v) (nth_number 1 v) (nth_bytes 2 v) (nth_number 3 v)
+    (nth_number 4 v)
 response_with Alarms v = responses.Alarms (nth_number 0 v)
 response_with AlarmsNext v = responses.AlarmsNext (nth_bytes 0 v)
 response_with Upload v = responses.Upload (nth_number 0 v)

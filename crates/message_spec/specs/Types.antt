@@ -48,7 +48,8 @@ row Get = record {
   -- mask
   request = field 9 TwoBytes ∷ [];
   -- code, mask, values, unsupported, failed
-  response = field 9 OneByte ∷ field 10 TwoBytes ∷ field 12 (ByteRow 25) ∷ field 37 TwoBytes ∷ field 39 TwoBytes ∷ [];
+  response = field 9 OneByte ∷ field 10 TwoBytes ∷ field 12 (ByteRow 25) ∷ field 37 TwoBytes
+      ∷ field 39 TwoBytes ∷ [];
 }
 row Alarms = record {
   number = 11;
@@ -129,11 +130,19 @@ pub record NoticeRow : Type 0 where
 
 -- bitmap, number
 abbrev pub alarm : NoticeRow
-alarm = record { number = 16; name = codes "alarm"; fields = field 9 (ByteRow 28) ∷ field 40 OneByte ∷ [] }
+alarm = record {
+  number = 16;
+  name = codes "alarm";
+  fields = field 9 (ByteRow 28) ∷ field 40 OneByte ∷ [];
+}
 
 -- mask, values
 abbrev pub change : NoticeRow
-change = record { number = 17; name = codes "change"; fields = field 9 TwoBytes ∷ field 11 (ByteRow 30) ∷ [] }
+change = record {
+  number = 17;
+  name = codes "change";
+  fields = field 9 TwoBytes ∷ field 11 (ByteRow 30) ∷ [];
+}
 
 abbrev pub type_number : MessageType → ℕ
 type_number (types.Command a) = (row a).number
@@ -144,14 +153,16 @@ type_number types.Change = change.number
 abbrev pub all_types : List MessageType
 all_types =
     types.Command Create ∷ types.Command Delete ∷ types.Command Set ∷ types.Command Get
-    ∷ types.Command Alarms ∷ types.Command AlarmsNext ∷ types.Command Upload ∷ types.Command UploadNext
+    ∷ types.Command Alarms ∷ types.Command AlarmsNext ∷ types.Command Upload
+    ∷ types.Command UploadNext
     ∷ types.Command Reset ∷ types.Alarm ∷ types.Change ∷ types.Command Start ∷ types.Command Section
     ∷ types.Command End ∷ types.Command Activate ∷ types.Command Commit ∷ types.Command Reboot ∷ []
 
 -- the first of some types that has this number
 abbrev pub first_numbered : List MessageType → ℕ → Option MessageType
 first_numbered [] number = None
-first_numbered (t ∷ others) number = if number == type_number t then Some t else first_numbered others number
+first_numbered (t ∷ others) number = if number == type_number t then Some t
+    else first_numbered others number
 
 -- the type of a number
 unfoldable pub type_numbered : ℕ → Option MessageType

@@ -12,4 +12,5 @@ unfoldable pub is_made : EntityId → Bool
 is_made one = list_any (is_at (entity_cmp one)) unit_entities
 
 pub record HoldsOnlyMade (database : Database) : Type 0 where
-  pub only : (one : EntityId) → is_held one database ≡ true → is_unit_made one.class ≡ true → is_made one ≡ true
+  pub only : (one : EntityId) → is_held one database ≡ true → is_unit_made one.class ≡ true
+      → is_made one ≡ true

@@ -17,7 +17,16 @@ place_of_third class = option_map_or (λ row. place_of row 57344 3) (class_row c
 
 -- one image of one byte
 abbrev pub one_image : Software
-one_image = record { first = Some (record { length = 1; crc = 255; version = 255 ∷ replicate 13 0 }); second = None; committed = 0; active = 0 }
+one_image = record {
+  first = Some (record {
+    length = 1;
+    crc = 255;
+    version = 255 ∷ replicate 13 0;
+  });
+  second = None;
+  committed = 0;
+  active = 0;
+}
 
 -- the first database, and a VLAN tagging filter more
 abbrev pub with_filter : Database
@@ -25,4 +34,5 @@ with_filter = (create_outcome (entity 84 1) (replicate 32 0) (first one_image)).
 
 -- the counter is set to 255, and then something else is set
 abbrev pub after_sets : Database
-after_sets = (set_outcome (entity 256 0) 1024 (1 ∷ replicate 29 0) (set_outcome (entity 2 0) 32768 (255 ∷ replicate 29 0) (first one_image)).database).database
+after_sets = (set_outcome (entity 256 0) 1024 (1 ∷ replicate 29 0)
+    (set_outcome (entity 2 0) 32768 (255 ∷ replicate 29 0) (first one_image)).database).database

@@ -101,7 +101,8 @@ pub fn worked_rows()
     ensures eleven { length (first one_image) ≡ 11 }
     ensures image { values_of (entity 7 0) (first one_image)
         ≡ (1, 255 ∷ replicate 13 0) ∷ (2, 1 ∷ []) ∷ (3, 1 ∷ []) ∷ (4, 1 ∷ []) ∷ [] }
-    ensures set_is_refused { set_outcome (entity 11 257) 3328 (1 ∷ 1 ∷ 6 ∷ replicate 27 0) (first one_image)
+    ensures set_is_refused { set_outcome (entity 11 257) 3328 (1 ∷ 1 ∷ 6 ∷ replicate 27 0)
+        (first one_image)
         ≡ record { code = 9; unsupported = 0; failed = 1024; database = first one_image } }
     ensures get_is_too_wide { get_outcome (entity 84 1) 57344 with_filter
         ≡ record { code = 3; mask = 0; values = replicate 25 0; unsupported = 0 } }

@@ -60,12 +60,14 @@ zeros_of class = option_map_or (λ row. zeros row.attributes) (class_row class) 
 
 -- the values of an entity, and zeros for one that isn't there
 unfoldable pub values_of : EntityId → Database → Values
-values_of one database = option_map_or (λ managed. managed.values) (managed_of one database) (zeros_of one.class)
+values_of one database = option_map_or (λ managed. managed.values) (managed_of one database)
+    (zeros_of one.class)
 
 -- the database with other values of an entity that is there, every other as it was
 unfoldable pub with_values : EntityId → Values → Database → Database
 with_values one values database =
-    option_map_or (λ managed. set_value (is_at (entity_cmp one)) database (record managed { values = values })) (managed_of one database) database
+    option_map_or (λ managed. set_value (is_at (entity_cmp one)) database
+    (record managed { values = values })) (managed_of one database) database
 
 -- the bytes of all values, one after the other in attribute order
 abbrev pub bytes_of : Values → List ℕ
@@ -92,7 +94,8 @@ counter database = byte_of (value_at 1 (values_of ONU_DATA database))
 
 -- the database with this counter, and else as it was
 unfoldable pub with_counter : ℕ → Database → Database
-with_counter count database = with_values ONU_DATA (with_value 1 (count ∷ []) (values_of ONU_DATA database)) database
+with_counter count database =
+    with_values ONU_DATA (with_value 1 (count ∷ []) (values_of ONU_DATA database)) database
 
 -- the counter is one more, and 1 after 255
 abbrev pub bump : ℕ → ℕ
@@ -125,11 +128,18 @@ image_entity number = entity 7 number
 -- the database with the software's values in both software images
 unfoldable pub with_software : Software → Database → Database
 with_software software database =
-    with_values (image_entity 1) (image_values 1 software) (with_values (image_entity 0) (image_values 0 software) database)
+    with_values (image_entity 1) (image_values 1 software)
+    (with_values (image_entity 0) (image_values 0 software) database)
 
 -- an entity that the unit makes, with these values
 abbrev pub unit_entity : ℕ → ℕ → Values → EntityId × Managed
-unit_entity class instance values = (entity class instance, record { maker = by_unit; values = values })
+unit_entity class instance values = (
+  entity class instance,
+  record {
+    maker = by_unit;
+    values = values;
+  },
+)
 
 -- a PPTP Ethernet UNI at first: frames of at most 1518 bytes
 unfoldable pub ethernet : Values
@@ -137,7 +147,8 @@ ethernet = with_value 8 (5 ∷ 238 ∷ []) (zeros_of 11)
 
 -- the ONU-G at first: its vendor and its serial number
 unfoldable pub onu_g : Values
-onu_g = with_value 1 (codes "OMC1") (with_value 3 (codes "OMC1" ++ (0 ∷ 0 ∷ 0 ∷ 1 ∷ [])) (zeros_of 256))
+onu_g = with_value 1 (codes "OMC1") (with_value 3 (codes "OMC1" ++ (0 ∷ 0 ∷ 0 ∷ 1 ∷ []))
+    (zeros_of 256))
 
 -- the ONU2-G at first
 unfoldable pub onu2_g : Values
@@ -169,7 +180,8 @@ is_by_unit by_manager = false
 
 -- whether the entity is there and the unit has made it
 abbrev pub is_made_by_unit : Database → EntityId → Bool
-is_made_by_unit database one = option_map_or (λ managed. is_by_unit managed.maker) (managed_of one database) false
+is_made_by_unit database one = option_map_or (λ managed. is_by_unit managed.maker)
+    (managed_of one database) false
 
 -- whether the database has each of the eleven, made by the unit
 unfoldable pub has_unit_entities : Database → Bool

@@ -35,13 +35,15 @@ is_unit_made number = option_map_or (λ row. is_by_unit row.maker) (class_row nu
 abbrev pub create_values : List Attribute → List ℕ → Values
 create_values [] given = []
 create_values (one ∷ rest) given =
-    if one.created then (one.number, take one.width given) ∷ create_values rest (drop one.width given)
+    if one.created then (one.number, take one.width given)
+    ∷ create_values rest (drop one.width given)
     else (one.number, replicate one.width 0) ∷ create_values rest given
 
 -- what a create makes
 unfoldable pub new_entity : ℕ → List ℕ → Managed
 new_entity class given =
-    option_map_or (λ row. record { maker = row.maker; values = create_values row.attributes given }) (class_row class) (record { maker = by_manager; values = [] })
+    option_map_or (λ row. record { maker = row.maker; values = create_values row.attributes given })
+    (class_row class) (record { maker = by_manager; values = [] })
 
 unfoldable pub create_code : EntityId → Database → ℕ
 create_code one database = first_code (
@@ -54,8 +56,11 @@ create_code one database = first_code (
 -- the code, and the database afterwards
 unfoldable pub create_outcome : EntityId → List ℕ → Database → ℕ × Database
 create_outcome one given database =
-    let code = create_code one database in
-    (code, unless_refused code (with_counter_grown (with_entity one (new_entity one.class given) database)) database)
+    let code = create_code one database in (
+      code,
+      unless_refused code
+          (with_counter_grown (with_entity one (new_entity one.class given) database)) database,
+    )
 
 unfoldable pub delete_code : EntityId → Database → ℕ
 delete_code one database = first_code (
@@ -80,14 +85,17 @@ of_class f class mask = option_map_or (λ row. f row mask) (class_row class) 0
 abbrev pub set_values : ℕ → List ℕ → Values → Values
 set_values mask given [] = []
 set_values mask given (one ∷ rest) =
-    if has mask one.0 then (one.0, take (length one.1) given) ∷ set_values mask (drop (length one.1) given) rest
+    if has mask one.0 then (one.0, take (length one.1) given)
+    ∷ set_values mask (drop (length one.1) given) rest
     else one ∷ set_values mask given rest
 
 unfoldable pub set_code : EntityId → ℕ → List ℕ → Database → ℕ
 set_code one mask given database = first_code (
     (not (is_class one.class), UNKNOWN_CLASS.0) ∷
-    (not (is_held one database), UNKNOWN_INSTANCE.0) ∷
-    (not (of_class unknown_mask one.class mask == 0 && of_class fixed_mask one.class mask == 0), ATTRIBUTES_FAILED.0) ∷
+    (not (is_held one database), UNKNOWN_INSTANCE.0) ∷ (
+      not (of_class unknown_mask one.class mask == 0 && of_class fixed_mask one.class mask == 0),
+      ATTRIBUTES_FAILED.0,
+    ) ∷
     (nat_lt (length given) (of_class width_of one.class mask), PARAMETER_ERROR.0) ∷
     [])
 
@@ -125,7 +133,8 @@ set_outcome one mask given database =
 -- get: the values of the named attributes, one after the other in attribute order
 abbrev pub named_values : ℕ → Values → List ℕ
 named_values mask [] = []
-named_values mask (one ∷ rest) = if has mask one.0 then one.1 ++ named_values mask rest else named_values mask rest
+named_values mask (one ∷ rest) = if has mask one.0 then one.1 ++ named_values mask rest
+    else named_values mask rest
 
 unfoldable pub get_code : ℕ → EntityId → ℕ → Database → ℕ
 get_code room one mask database = first_code (
@@ -154,7 +163,8 @@ get_outcome_in room one mask database =
     record {
       code = code;
       mask = if is_answered code then of_class known_mask one.class mask else 0;
-      values = filled room (if is_answered code then named_values mask (values_of one database) else []);
+      values = filled room (if is_answered code then named_values mask (values_of one database)
+          else []);
       unsupported = if code == ATTRIBUTES_FAILED.0 then of_class unknown_mask one.class mask else 0;
     }
 
@@ -171,18 +181,22 @@ reset_code one = first_code (
 
 -- the first database, its counter 0, with the software images as they stand
 unfoldable pub reset : Database → Database
-reset database = first_with (values_of (image_entity 0) database) (values_of (image_entity 1) database)
+reset database = first_with (values_of (image_entity 0) database)
+    (values_of (image_entity 1) database)
 
 -- whether a measured value may be held there: the entity is there and of neither class 2 nor class
 -- 7, and the attribute is there, may not be written, and has this width
 unfoldable pub may_sense : EntityId → ℕ → List ℕ → Database → Bool
 may_sense one number value database =
     is_held one database && not (one.class == 2) && not (one.class == 7)
-    && option_map_or (λ row. option_map_or (λ attribute. not attribute.written && attribute.width == length value) (attribute_in row.attributes number) false) (class_row one.class) false
+    && option_map_or (λ row. option_map_or (λ attribute. not attribute.written
+    && attribute.width == length value) (attribute_in row.attributes number) false)
+    (class_row one.class) false
 
 -- whether the attribute holds the value already
 unfoldable pub is_sensed : EntityId → ℕ → List ℕ → Database → Bool
-is_sensed one number value database = option_map_or (λ bytes. bytes_eq bytes value) (value_at number (values_of one database)) false
+is_sensed one number value database = option_map_or (λ bytes. bytes_eq bytes value)
+    (value_at number (values_of one database)) false
 
 -- a value that the unit measured
 unfoldable pub sense_outcome : EntityId → ℕ → List ℕ → Database → Sensed × Database

@@ -39,7 +39,8 @@ pub record IsRefused (database : Database) (one : EntityId) (code : ℕ) : Type 
   pub no_mask : (code == 9) ≡ false
 
 -- the attribute may be measured: the entity's class and its place
-pub record AdmitsSense (entries : List Entry) (one : EntityId) (number : ℕ) (value : List ℕ) (admitted : Admitted) : Type 0 where
+pub record AdmitsSense (entries : List Entry) (one : EntityId) (number : ℕ) (value : List ℕ)
+    (admitted : Admitted) : Type 0 where
   pub allowed : may_sense one number value (database_of entries) ≡ true
   pub row : class_row one.class ≡ Some admitted.class
   pub rule : IsRow admitted.class

@@ -30,7 +30,13 @@ width_in class = option_map_or (λ row. whole_width row.attributes) (class_row c
 
 -- an entry as the database has it
 abbrev pub held_of : Entry → EntityId × Managed
-held_of entry = (entry.entity, record { maker = maker_of entry.entity.class; values = values_in entry.entity.class entry.values })
+held_of entry = (
+  entry.entity,
+  record {
+    maker = maker_of entry.entity.class;
+    values = values_in entry.entity.class entry.values;
+  },
+)
 
 -- the table as a database
 abbrev pub database_of : List Entry → Database
@@ -68,7 +74,8 @@ pub record IsMib (entries : List Entry) : Type 0 where
 
 -- a software image with this version, committed or not, active or not, valid or not
 abbrev pub image_by : List ℕ → Bool → Bool → Bool → Values
-image_by version committed active valid = (1, version) ∷ (2, flag committed) ∷ (3, flag active) ∷ (4, flag valid) ∷ []
+image_by version committed active valid = (1, version) ∷ (2, flag committed) ∷ (3, flag active)
+    ∷ (4, flag valid) ∷ []
 
 -- an entry for reading past the end
 abbrev pub no_entry : Entry
@@ -82,13 +89,17 @@ pub record IsAt (entries : List Entry) (one : EntityId) (at : ℕ) : Type 0 wher
   pub in_range : at < length entries
   pub here : (entry_at entries at).entity ≡ one
   pub before : (k : ℕ) → k < at → entity_cmp (entry_at entries k).entity one ≡ Less
-  pub is_held : managed_of one (database_of entries) ≡ Some record { maker = maker_of one.class; values = values_in one.class (entry_at entries at).values }
+  pub is_held : managed_of one (database_of entries) ≡ Some record {
+    maker = maker_of one.class;
+    values = values_in one.class (entry_at entries at).values;
+  }
 
 -- the entity isn't there and would go to this place
 pub record IsGap (entries : List Entry) (one : EntityId) (at : ℕ) : Type 0 where
   pub in_range : at ≤ length entries
   pub before : (k : ℕ) → k < at → entity_cmp (entry_at entries k).entity one ≡ Less
-  pub after : (k : ℕ) → at ≤ k → k < length entries → entity_cmp (entry_at entries k).entity one ≡ Greater
+  pub after : (k : ℕ) → at ≤ k → k < length entries → entity_cmp (entry_at entries k).entity one
+      ≡ Greater
   pub not_held : managed_of one (database_of entries) ≡ None
 
 -- the table has an entry more

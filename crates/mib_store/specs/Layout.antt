@@ -20,11 +20,13 @@ cut (one ∷ rest) bytes = (one.number, take one.width bytes) ∷ cut rest (drop
 -- the bytes of the values that pass
 abbrev pub chosen_bytes : (Attribute → Bool) → List Attribute → List ℕ → List ℕ
 chosen_bytes passes [] bytes = []
-chosen_bytes passes (one ∷ rest) bytes = (if passes one then take one.width bytes else []) ++ chosen_bytes passes rest (drop one.width bytes)
+chosen_bytes passes (one ∷ rest) bytes = (if passes one then take one.width bytes else [])
+    ++ chosen_bytes passes rest (drop one.width bytes)
 
 -- the bytes with the values that pass cut from the given ones
 abbrev pub with_chosen : (Attribute → Bool) → List Attribute → List ℕ → List ℕ → List ℕ
 with_chosen passes [] given bytes = bytes
 with_chosen passes (one ∷ rest) given bytes =
     (if passes one then take one.width given else take one.width bytes)
-    ++ with_chosen passes rest (if passes one then drop one.width given else given) (drop one.width bytes)
+    ++ with_chosen passes rest (if passes one then drop one.width given else given)
+    (drop one.width bytes)

@@ -11,7 +11,8 @@ use Rattle.mib_upload.specs.Faults.{fault_as}
 pub record Joins (parts : List Part) (piece : List ℕ) (part : Part) : Type 0 where
   pub good : piece_fault piece (copy_of parts) ≡ None
   pub known : IsKnown part
-  pub joined : with_copied part.entity (part_as part).1 (copy_of parts) ≡ with_piece piece (copy_of parts)
+  pub joined : with_copied part.entity (part_as part).1 (copy_of parts)
+      ≡ with_piece piece (copy_of parts)
 
 -- the piece has this fault
 pub record IsFault (parts : List Part) (piece : List ℕ) (fault : GatherFault) : Type 0 where

@@ -40,7 +40,11 @@ pub record IsParts (parts : List Part) : Type 0 where
 
 -- a part for reading past the end
 abbrev pub no_part : Part
-no_part = record { entity = record { class = 0; instance = 0 }; mask = record { 0 = 0 }; values = [] }
+no_part = record {
+  entity = record { class = 0; instance = 0 };
+  mask = record { 0 = 0 };
+  values = [];
+}
 
 abbrev pub part_at : List Part → ℕ → Part
 part_at parts at = slice_index_or parts at no_part
@@ -56,5 +60,6 @@ pub record IsAt (parts : List Part) (one : EntityId) (at : ℕ) : Type 0 where
 pub record IsGap (parts : List Part) (one : EntityId) (at : ℕ) : Type 0 where
   pub in_range : at ≤ length parts
   pub before : (k : ℕ) → k < at → entity_cmp (part_at parts k).entity one ≡ Less
-  pub after : (k : ℕ) → at ≤ k → k < length parts → entity_cmp (part_at parts k).entity one ≡ Greater
+  pub after : (k : ℕ) → at ≤ k → k < length parts → entity_cmp (part_at parts k).entity one
+      ≡ Greater
   pub not_copied : copied one (copy_of parts) ≡ None

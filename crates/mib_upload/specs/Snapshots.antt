@@ -18,7 +18,8 @@ database_of entries = map taken_as entries
 abbrev pub AreNumbered : ℕ → List Taken → Type 0
 AreNumbered number [] = Unit {0}
 AreNumbered number (taken ∷ rest) =
-    (taken.first ≡ number) × AreNumbered (number + length (pieces_of taken.entity (taken_as taken).1.values)) rest
+    (taken.first ≡ number)
+    × AreNumbered (number + length (pieces_of taken.entity (taken_as taken).1.values)) rest
 
 pub record IsSnapshot (entries : List Taken) (count counted : ℕ) : Type 0 where
   pub numbered : AreNumbered 0 entries

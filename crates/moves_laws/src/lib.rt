@@ -13,16 +13,20 @@ ghost use Rattle.moves_laws.specs.Facts.{IsReached, MayGoDown, MayBeCarriedOut, 
 /// twice in one life of the unit, and each reply that the manager takes is that of the last time
 /// that its command was carried out.
 pub fn moves_act_once()
-    ensures once { (low high : ℕ) (moves : List Move) → Once (after_moves moves (first_channel low high)).shared.history }
-    ensures answered { (low high : ℕ) (moves : List Move) → Answered (after_moves moves (first_channel low high)).shared.history }
+    ensures once { (low high : ℕ) (moves : List Move)
+        → Once (after_moves moves (first_channel low high)).shared.history }
+    ensures answered { (low high : ℕ) (moves : List Move)
+        → Answered (after_moves moves (first_channel low high)).shared.history }
 {}
 
 /// What the unit may carry out next was not carried out in this life of it, and in a proved lane it
 /// is the outstanding command.
 pub fn requests_are_awaited()
-    ensures fresh { (l : Priority) (w : Channel) (at : ℕ) (c : Transaction) → IsReached w → MayBeCarriedOut l w at c
+    ensures fresh { (l : Priority) (w : Channel) (at : ℕ) (c : Transaction) → IsReached w
+        → MayBeCarriedOut l w at c
         → WasCarried w.shared.life c.id w.shared.history → ⊥ }
-    ensures awaited { (l : Priority) (w : Channel) (at : ℕ) (c : Transaction) → IsReached w → (lane_view l w).lane.proved ≡ true
+    ensures awaited { (l : Priority) (w : Channel) (at : ℕ) (c : Transaction) → IsReached w
+        → (lane_view l w).lane.proved ≡ true
         → MayBeCarriedOut l w at c → IsAwaited l w c }
 {}
 
@@ -30,18 +34,24 @@ pub fn requests_are_awaited()
 /// command's number. Where the command isn't a probe, it was carried out in this life of the unit,
 /// and the reply is that of the last time.
 pub fn replies_are_own()
-    ensures own { (l : Priority) (w : Channel) (at : ℕ) (c : Transaction) (bytes : List ℕ) (o : Outstanding) → IsReached w
+    ensures own { (l : Priority) (w : Channel) (at : ℕ) (c : Transaction) (bytes : List ℕ)
+        (o : Outstanding) → IsReached w
         → MayBeTaken l w at c bytes o → c ≡ o.transaction }
-    ensures kept { (l : Priority) (w : Channel) (at : ℕ) (c : Transaction) (bytes : List ℕ) (o : Outstanding) → IsReached w
+    ensures kept { (l : Priority) (w : Channel) (at : ℕ) (c : Transaction) (bytes : List ℕ)
+        (o : Outstanding) → IsReached w
         → MayBeTaken l w at c bytes o → KeepsNumber l w c }
-    ensures carried { (l : Priority) (w : Channel) (at : ℕ) (c : Transaction) (bytes : List ℕ) (o : Outstanding) → IsReached w
-        → MayBeTaken l w at c bytes o → c.probe ≡ false → WasCarried w.shared.life c.id w.shared.history }
-    ensures reply { (l : Priority) (w : Channel) (at : ℕ) (c : Transaction) (bytes : List ℕ) (o : Outstanding) → IsReached w
+    ensures carried { (l : Priority) (w : Channel) (at : ℕ) (c : Transaction) (bytes : List ℕ)
+        (o : Outstanding) → IsReached w
+        → MayBeTaken l w at c bytes o → c.probe ≡ false
+        → WasCarried w.shared.life c.id w.shared.history }
+    ensures reply { (l : Priority) (w : Channel) (at : ℕ) (c : Transaction) (bytes : List ℕ)
+        (o : Outstanding) → IsReached w
         → MayBeTaken l w at c bytes o → c.probe ≡ false → LastReply c.id bytes w.shared.history }
 {}
 
 /// No request that may come is of an older command than a reply that may come in its lane.
 pub fn requests_follow_replies()
-    ensures older { (l : Priority) (w : Channel) (up down : ℕ) (c d : Transaction) (bytes : List ℕ) → IsReached w
+    ensures older { (l : Priority) (w : Channel) (up down : ℕ) (c d : Transaction) (bytes : List ℕ)
+        → IsReached w
         → MayGoUp l w up c bytes → MayGoDown l w down d → c.id ≤ d.id }
 {}

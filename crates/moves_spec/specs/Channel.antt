@@ -36,8 +36,8 @@ pub record Outstanding : Type 0 where
   pub sent : ℕ
 
 -- What the two ends and the link hold of one lane. No packet below a floor may come. The place is
--- that of the outstanding command, or of the next one where there is none. Since is how many packets
--- had been sent when the outstanding command was drawn, or when the last one ended.
+-- that of the outstanding command, or of the next one where there is none. Since is how many
+-- packets had been sent when the outstanding command was drawn, or when the last one ended.
 pub record LaneState : Type 0 where
   pub floor_down : ℕ
   pub floor_up : ℕ

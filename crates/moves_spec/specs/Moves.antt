@@ -19,8 +19,8 @@ pub data Move : Type 0 where
   Send : (lane : Priority) → Move
   -- it waits no more for the lane's outstanding command
   GiveUp : (lane : Priority) → Move
-  -- the request at that place of the link comes to the unit, which carries it out so unless it keeps
-  -- the number; or the unit takes it from the link and does nothing with it
+  -- the request at that place of the link comes to the unit, which carries it out so unless it
+  -- keeps the number; or the unit takes it from the link and does nothing with it
   RequestComes : (at : ℕ) (execution : Option Execution) → Move
   -- the reply or notice at that place of the link comes to the manager, which takes the reply where
   -- it wants it and waits for its number

@@ -218,8 +218,8 @@ impl Manager {
     /// Begins a download of an image into slot 0 or 1 of the unit (ITU-T G.988, annex A, software
     /// download), in windows of at most so many sections, 1 to 256. Where no check value is given,
     /// the image's own is sent. Refused, in this order, where the low lane isn't proved, where a
-    /// command is outstanding in it, where a job runs, and where a change is outstanding in the high
-    /// lane; then nothing has changed, nothing is sent, and the image is dropped.
+    /// command is outstanding in it, where a job runs, and where a change is outstanding in the
+    /// high lane; then nothing has changed, nothing is sent, and the image is dropped.
     pub fn image(
         &mut self,
         slot: u8,

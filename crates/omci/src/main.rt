@@ -1,10 +1,12 @@
-//! The program `omci`: the top call over the words of the command line, standard input, standard output and a file.
+//! The program `omci`: the top call over the words of the command line, standard input, standard
+//! output, a file and a link over UDP.
 #![tactic(auto)]
 
 ghost use Rattle.std.specs.Prelude.{◌≡◌, drop, map, IfOk};
 ghost use Rattle.std.specs.String.{string_bytes};
 
 use omci_core::{NoMemory, StdSink, StdSource, Words};
+use omci_link::UdpLink;
 use omci_top::{Status, omci};
 use slot_disk::FileDisk;
 use std::alloc::{AllocError, Global};
@@ -58,13 +60,15 @@ fn words_of<R: Env + AllocGlobal>(rt: &R) -> Result<Words, NoWords> {
     Ok(words_after(rt.alloc(), &arguments)?)
 }
 
-/// The top call over the words of the command line, standard input, standard output and a file.
+/// The top call over the words of the command line, standard input, standard output, a file and a
+/// link over UDP.
 fn run(rt: &HostRuntime) -> Result<Status, NoWords> {
     let words = words_of(rt)?;
     let mut source = StdSource::new(rt.reader());
     let mut sink = StdSink::new(io::writer(rt));
     let disk = FileDisk::new(rt.clone()?);
-    Ok(omci(rt.alloc(), &words, &mut source, &mut sink, disk).status)
+    let mut link = UdpLink::new(rt.clone()?);
+    Ok(omci(rt.alloc(), &words, &mut source, &mut sink, disk, &mut link).status)
 }
 
 fn main(rt: HostRuntime) -> ExitCode {

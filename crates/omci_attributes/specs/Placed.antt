@@ -21,7 +21,8 @@ is_named row mask number = is_some (attribute_in row.attributes number) && has m
 
 -- where the attribute's value ends
 abbrev pub end_of : Row → Mask → ℕ → ℕ
-end_of row mask number = place_of row mask.0 number + option_map_or (λ one. one.width) (attribute_in row.attributes number) 0
+end_of row mask number = place_of row mask.0 number
+    + option_map_or (λ one. one.width) (attribute_in row.attributes number) 0
 
 -- the first fault that holds, else the place
 unfoldable pub placed : Row → Mask → ℕ → ℕ → Result ℕ MaskFault

@@ -1,3 +1,4 @@
 pub mod Cutting
 pub mod Exactly
 pub mod Digits
+pub mod Numbers

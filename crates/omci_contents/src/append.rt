@@ -14,6 +14,7 @@ use omci_core::NoMemory;
 const HEX_ROW: usize = 32;
 
 /// Appends some bytes.
+#[inline(always)]
 pub fn push_bytes(out: &mut Vec<u8>, bytes: &[u8]) -> Result<(), NoMemory>
     ensures text { OnOk result (out.new.items ≡ out.old.items ++ bytes.now) }
     ensures front { IsFront out.old.items out.new.items }

@@ -7,6 +7,7 @@ mod append;
 mod fields;
 mod kinds;
 mod reading;
+mod short_text;
 mod texts;
 mod writing;
 
@@ -15,5 +16,6 @@ pub use kinds::{read_kind, write_kind};
 pub use message_spec::{Action, ContentsFault, Kind, Message, Notice, Request, Response};
 pub use omci_types::{Code, EntityId, Frame};
 pub use reading::read_message;
+pub use short_text::{FRAME_TEXT_BYTES, NUMBER_BYTES, SHORT_TEXT_BYTES, ShortText};
 pub use texts::{push_contents_text, push_kind_text, push_text, text};
 pub use writing::{has_valid_window, write_message};

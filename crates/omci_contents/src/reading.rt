@@ -87,7 +87,8 @@ fn read_request(action: Action, contents: &[u8; CONTENTS_BYTES]) -> Request
 
 // The response of some contents.
 fn read_response(action: Action, contents: &[u8; CONTENTS_BYTES]) -> Response
-    ensures { result ≡ response_with action (values_at (layout (kinds.Response action)) contents.now) }
+    ensures { result ≡ response_with action
+        (values_at (layout (kinds.Response action)) contents.now) }
 {
     let code = Code(byte_at(contents, 9));
     match action {
@@ -158,7 +159,8 @@ fn read_change(contents: &[u8; CONTENTS_BYTES]) -> Notice
 
 // The message of a kind with the contents of a frame.
 fn message_of_kind(kind: Kind, frame: &Frame) -> Message
-    ensures { result ≡ message_with kind frame.now.tci frame.now.entity (values_at (layout kind) frame.now.contents) }
+    ensures { result ≡ message_with kind frame.now.tci frame.now.entity
+        (values_at (layout kind) frame.now.contents) }
 {
     let Frame {
         tci,

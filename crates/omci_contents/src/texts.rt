@@ -1,12 +1,14 @@
 //! The text of a message.
 
-ghost use Rattle.std.specs.Prelude.{◌≡◌, ◌≤◌, ◌++◌, length, OnOk, IfOk};
+ghost use Rattle.std.specs.Prelude.{◌≡◌, ◌+◌, ◌≤◌, ◌++◌, length, take, drop, OnOk, IfOk};
+ghost use Rattle.std.specs.Int.{from_be_bytes, w64};
 ghost use Rattle.message_spec.specs.Types as spec;
 ghost use Rattle.message_spec.specs.Text.{kind_name, kind_text, cut, contents_text, message_text};
 ghost use Rattle.omci_contents.specs.Front.{IsFront};
 
-use crate::append::{push_bytes, push_hex, push_number, push_tci};
+use crate::append::{push_bytes, push_hex};
 use crate::kinds::read_kind;
+use crate::short_text::ShortText;
 use message_spec::{Action, Frame, Kind, MAX_TEXT_BYTES};
 use omci_core::NoMemory;
 use std::alloc::Global;
@@ -67,12 +69,35 @@ pub fn push_kind_text(out: &mut Vec<u8>, byte: u8) -> Result<(), NoMemory>
     }
 }
 
+// The number that the eight bytes at a place are.
+fn number_at(bytes: &[u8], place: usize) -> u64
+    requires { place + 8 ≤ length bytes.now }
+    ensures value { result ≡ from_be_bytes w64 (take 8 (drop place bytes.now)) }
+{
+    let mut eight = [0; 8];
+    eight.copy_from_slice(&bytes[place..place + 8]);
+    u64::from_be_bytes(eight)
+}
+
+// How many bytes are left where zeros at the end are cut eight at a time. Of the zeros, fewer than
+// eight may be left.
+fn zeros_passed(bytes: &[u8]) -> usize
+    ensures value { cut (take result bytes.now) ≡ cut bytes.now }
+    ensures bound { result ≤ length bytes.now }
+{
+    let mut end = bytes.len();
+    while end >= 8 && number_at(bytes, end - 8) == 0 {
+        end -= 8;
+    }
+    end
+}
+
 // Some bytes without the zeros at their end.
-fn without_zeros(bytes: &[u8]) -> &[u8]
+pub(crate) fn without_zeros(bytes: &[u8]) -> &[u8]
     ensures value { result.now ≡ cut bytes.now }
     ensures bound { length result.now ≤ length bytes.now }
 {
-    let mut end = bytes.len();
+    let mut end = zeros_passed(bytes);
     while end > 0 && bytes[end - 1] == 0 {
         end -= 1;
     }
@@ -109,16 +134,9 @@ pub fn push_text(out: &mut Vec<u8>, frame: &Frame) -> Result<(), NoMemory>
     ensures text { OnOk result (out.new.items ≡ out.old.items ++ message_text frame.now) }
     ensures front { IsFront out.old.items out.new.items }
 {
-    push_tci(out, frame.tci)?;
-    push_bytes(out, b" 0a ")?;
-    push_kind_text(out, frame.kind)?;
-    push_bytes(out, b" ")?;
-    push_number(out, frame.entity.class as u64)?;
-    push_bytes(out, b" ")?;
-    push_number(out, frame.entity.instance as u64)?;
-    push_bytes(out, b" ")?;
-    push_contents_text(out, &frame.contents)?;
-    Ok(())
+    let mut text = ShortText::new();
+    text.append_text(frame);
+    push_bytes(out, text.bytes())
 }
 
 /// The text of a frame, as `push_text` appends it. `NoMemory` where there is no room for it.

@@ -62,7 +62,8 @@ fn request_contents(request: &Request) -> Contents
 fn response_contents(response: &Response) -> Contents
     requires { ResponseWindow response.now }
     ensures { result.0
-        ≡ put_values (layout (kinds.Response (response_action response.now))) (response_values response.now) padding }
+        ≡ put_values (layout (kinds.Response (response_action response.now)))
+        (response_values response.now) padding }
 {
     let padding = Contents::padding();
     match *response {

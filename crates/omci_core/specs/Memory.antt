@@ -28,20 +28,43 @@ source_fails s = list_any (λ call. call == one_more s.calls) s.fails
 
 -- whether the next call of a sink fails: the list names it, or the sink is full
 abbrev pub sink_fails : SinkState → Bool
-sink_fails s = list_any (λ call. call == one_more s.calls) s.fails || nat_le s.room (length s.written)
+sink_fails s = list_any (λ call. call == one_more s.calls) s.fails
+    || nat_le s.room (length s.written)
 
 -- a source after a call that took n bytes
 abbrev pub source_taken : ℕ → SourceState → SourceState
-source_taken n s = record { left = drop n s.left; calls = one_more s.calls; fails = s.fails; faults = s.faults }
+source_taken n s = record {
+  left = drop n s.left;
+  calls = one_more s.calls;
+  fails = s.fails;
+  faults = s.faults;
+}
 
 -- a source after a call that failed
 abbrev pub source_failed : SourceState → SourceState
-source_failed s = record { left = s.left; calls = one_more s.calls; fails = s.fails; faults = one_more s.faults }
+source_failed s = record {
+  left = s.left;
+  calls = one_more s.calls;
+  fails = s.fails;
+  faults = one_more s.faults;
+}
 
 -- a sink after a call that wrote these bytes
 abbrev pub sink_wrote : List ℕ → SinkState → SinkState
-sink_wrote bytes s = record { written = s.written ++ bytes; room = s.room; calls = one_more s.calls; fails = s.fails; faults = s.faults }
+sink_wrote bytes s = record {
+  written = s.written ++ bytes;
+  room = s.room;
+  calls = one_more s.calls;
+  fails = s.fails;
+  faults = s.faults;
+}
 
 -- a sink after a call that failed
 abbrev pub sink_failed : SinkState → SinkState
-sink_failed s = record { written = s.written; room = s.room; calls = one_more s.calls; fails = s.fails; faults = one_more s.faults }
+sink_failed s = record {
+  written = s.written;
+  room = s.room;
+  calls = one_more s.calls;
+  fails = s.fails;
+  faults = one_more s.faults;
+}

@@ -67,7 +67,8 @@ fn has_values(orders: &Orders, place: usize, wanted: &[u8]) -> bool {
         return false;
     }
     match orders.event(place) {
-        Event::Create { values, .. } | Event::Set { values, .. } => values.bytes() == wanted,
+        Event::Create { values, .. } => values.bytes() == wanted,
+        Event::Set { values, .. } => values.bytes() == wanted,
         Event::Image { image, .. } => image.bytes() == wanted,
         _ => false,
     }

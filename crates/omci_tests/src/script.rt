@@ -1,7 +1,7 @@
 //! Reading and printing scripts: every kind of line, every kind of fault, and the ends of lines.
 
 use omci_core::{Bytes, EntityId, Priority};
-use replay_script::{CutPick, Event, Script, ScriptRefusal, print, read};
+use replay_script::{CutPick, Event, FewBytes, Script, ScriptRefusal, print, read};
 use std::alloc::{AllocError, Global};
 use std::test::*;
 
@@ -116,8 +116,8 @@ fn commands_are_read(rt: HostRuntime) -> Result<(), Fail> {
         class: 272,
         instance: 65_535,
     };
-    let values = Bytes::of(alloc, &[0, 0x30, 0xab])?;
-    let none = Bytes::of(alloc, &[])?;
+    let values = FewBytes::of(&[0, 0x30, 0xab]);
+    let none = FewBytes::of(&[]);
     assert_eq!(rt; script.len(), 8);
     assert!(rt; has_event(&script, 0, &Event::Probe { lane }));
     assert!(rt;

@@ -20,9 +20,9 @@ use Rattle.omci_top.specs.Streams.{ReadsWhole}
 use Rattle.omci_top.specs.Headline.{ActsOnce, TakesOwnReplies, CopiesDatabases, StaysInStep, AuditsAlarms, DownloadsImages, AlwaysBoots}
 use Rattle.omci_top.specs.Texts.{input_text, answer_of, answer_to}
 use Rattle.omci_top.specs.declared.status.Status.{Status}
-use Rattle.omci_top.specs.declared.status.Status.TheVariants.{Done, Usage, Input, ReadFault, WriteFault, DiskFault, TooLong, NoMemory, TooLarge}
+use Rattle.omci_top.specs.declared.status.Status.TheVariants.{Done, Usage, Input, ReadFault, WriteFault, DiskFault, LinkFault, NoUnit, TooLong, NoMemory, TooLarge}
 use Rattle.link_replay.specs.Seen.{State}
-use Rattle.link_replay.specs.Writing.{WritesFront}
+use Rattle.trace_lines.specs.Writing.{WritesFront}
 use Rattle.omci_top.specs.Answers.{Ran, Told, Ends, AnswersReplay, StandsAfter}
 
 pub answer_to_script : (input : List ℕ) (script : Script) → reading input ≡ Ok script → answer_to input ≡ trace script
@@ -41,6 +41,8 @@ Ends-ran (Input place reason) world script input before now fb fn spelled is end
 Ends-ran ReadFault world script input before now fb fn spelled is ended ran = elim ran [ ]
 Ends-ran WriteFault world script input before now fb fn spelled is ended ran = (subst (λ text. WritesFront text before now) (sym is) ran.0, ran.1)
 Ends-ran DiskFault world script input before now fb fn spelled is ended ran = elim ran [ ]
+Ends-ran LinkFault world script input before now fb fn spelled is ended ran = elim ran [ ]
+Ends-ran NoUnit world script input before now fb fn spelled is ended ran = elim ran [ ]
 Ends-ran TooLong world script input before now fb fn spelled is ended ran = elim ran [ ]
 Ends-ran NoMemory world script input before now fb fn spelled is ended ran = (subst (λ text. WritesFront text before now) (sym is) ran.0, ran.1)
 Ends-ran TooLarge world script input before now fb fn spelled is ended ran = elim ran [ ]
@@ -55,6 +57,8 @@ Ends-told (Input line why) world place reason input before now fb fn faulty is t
 Ends-told ReadFault world place reason input before now fb fn faulty is told = elim told [ ]
 Ends-told WriteFault world place reason input before now fb fn faulty is told = (subst (λ text. WritesFront text before now) (sym is) told.0, told.1)
 Ends-told DiskFault world place reason input before now fb fn faulty is told = elim told [ ]
+Ends-told LinkFault world place reason input before now fb fn faulty is told = elim told [ ]
+Ends-told NoUnit world place reason input before now fb fn faulty is told = elim told [ ]
 Ends-told TooLong world place reason input before now fb fn faulty is told = elim told [ ]
 Ends-told NoMemory world place reason input before now fb fn faulty is told = (subst (λ text. WritesFront text before now) (sym is) told.0, told.1)
 Ends-told TooLarge world place reason input before now fb fn faulty is told = elim told [ ]
@@ -158,6 +162,8 @@ AnswersReplay-ends laws ReadFault world input lb ln wb wn rb rn kb kn read same 
 AnswersReplay-ends laws WriteFault world input lb ln wb wn rb rn kb kn read same ends =
     (record { input = input; read = read; front = ends.0 }, same, ends.1)
 AnswersReplay-ends laws DiskFault world input lb ln wb wn rb rn kb kn read same ends = elim ends [ ]
+AnswersReplay-ends laws LinkFault world input lb ln wb wn rb rn kb kn read same ends = elim ends [ ]
+AnswersReplay-ends laws NoUnit world input lb ln wb wn rb rn kb kn read same ends = elim ends [ ]
 AnswersReplay-ends laws TooLong world input lb ln wb wn rb rn kb kn read same ends = elim ends [ ]
 AnswersReplay-ends laws NoMemory world input lb ln wb wn rb rn kb kn read same ends =
     (inr (record { input = input; read = read; front = ends.0 }), same, ends.1)

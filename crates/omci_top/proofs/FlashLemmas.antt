@@ -11,7 +11,7 @@ use Rattle.omci_top.specs.Streams.{ReadsWhole}
 use Rattle.omci_top.specs.Flashes.{HoldsFlash, FlashesImage, AnswersFlash, flash_calls}
 use Rattle.omci_top.specs.declared.flash.TheConstants.{FLASH_ROOM}
 use Rattle.omci_top.specs.declared.status.Status.{Status}
-use Rattle.omci_top.specs.declared.status.Status.TheVariants.{Done, Usage, Input, ReadFault, WriteFault, DiskFault, TooLong, NoMemory, TooLarge}
+use Rattle.omci_top.specs.declared.status.Status.TheVariants.{Done, Usage, Input, ReadFault, WriteFault, DiskFault, LinkFault, NoUnit, TooLong, NoMemory, TooLarge}
 
 -- slots that were laid out with this room hold the flash
 pub holds_flash : {D : Type 0} (seen : D → Option (List ℕ)) (may_leave : D → List ℕ → Type 0) (disk : D) (header : DiskHeader) (image : List ℕ) → header.room ≡ FLASH_ROOM → Settled seen may_leave disk header (formatted_slots image) → HoldsFlash seen may_leave image disk
@@ -59,6 +59,8 @@ module _ {D : Type 0} (seen : D → Option (List ℕ)) (may_leave : D → List �
   AnswersFlash-image ReadFault image read same flashed = elim flashed [ ]
   AnswersFlash-image WriteFault image read same flashed = elim flashed [ ]
   AnswersFlash-image DiskFault image read same flashed = (record { image = image; read = read; flashed = flashed }, same)
+  AnswersFlash-image LinkFault image read same flashed = elim flashed [ ]
+  AnswersFlash-image NoUnit image read same flashed = elim flashed [ ]
   AnswersFlash-image TooLong image read same flashed = elim flashed [ ]
   AnswersFlash-image NoMemory image read same flashed = elim flashed [ ]
   AnswersFlash-image TooLarge image read same flashed = (record { image = image; read = read; flashed = flashed }, same)

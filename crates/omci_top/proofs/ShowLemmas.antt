@@ -8,7 +8,7 @@ use Rattle.omci_core.proofs.Streams.{Appends-none, Appends-then, Consumes-whole}
 use Rattle.stream_spec.specs.Streams.{Open, IsStream}
 use Rattle.extended_spec.specs.Frames.{Any, IsAny, any_spelling}
 use Rattle.extended_spec.specs.Streams.{any_front}
-use Rattle.link_replay.specs.Writing.{WritesFront}
+use Rattle.trace_lines.specs.Writing.{WritesFront}
 use Rattle.show_spec.specs.Shown.{Passes, open_reason, reason_by, reason_at, frame_bytes, frame_lines, none_refused, no_message_refused, unknown_count, count_text}
 use Rattle.stream_show.specs.declared.ends.StreamEnd.{StreamEnd}
 use Rattle.stream_show.specs.declared.ends.StreamEnd.TheVariants as ends
@@ -20,7 +20,7 @@ use Rattle.omci_top.specs.Texts.{input_text}
 use Rattle.omci_top.specs.Answers.{Ran, Told}
 use Rattle.omci_top.specs.Shows.{ReadsFrames, FindsFault, fault_lines, AnswersShow, AnswersCheck, frame_counts, HasFault, HasNoFault}
 use Rattle.omci_top.specs.declared.status.Status.{Status}
-use Rattle.omci_top.specs.declared.status.Status.TheVariants.{Done, Usage, Input, ReadFault, WriteFault, DiskFault, TooLong, NoMemory, TooLarge}
+use Rattle.omci_top.specs.declared.status.Status.TheVariants.{Done, Usage, Input, ReadFault, WriteFault, DiskFault, LinkFault, NoUnit, TooLong, NoMemory, TooLarge}
 
 reads_frames : (refused : Any → Option ℕ) (lb ln : Option (List ℕ)) (frames : List Any) (rest : List ℕ) → Sees refused 16777216 lb ln frames rest → rest ≡ [] → IsAtEnd ln → ReadsFrames refused lb ln frames
 reads_frames refused lb ln frames rest seen empty at_end =
@@ -71,6 +71,8 @@ module _ (lb ln wb w wn : Option (List ℕ)) (rb rn kb k kn : ℕ) where
     subst (λ (n : ℕ). Rose n kn) all.writes.1 told.1,
   )
   show_told DiskFault place reason all told = elim told [ ]
+  show_told LinkFault place reason all told = elim told [ ]
+  show_told NoUnit place reason all told = elim told [ ]
   show_told TooLong place reason all told = elim told [ ]
   show_told NoMemory place reason all told = (
     record {
@@ -110,6 +112,8 @@ module _ (lb ln wb wn : Option (List ℕ)) (rb rn kb kn : ℕ) where
       let same : count_text counts.frames counts.unknown ≡ frame_counts all.frames = ap (λ (n : ℕ). count_text n counts.unknown) all.all ∙ ap (count_text (length all.frames)) all.unknown in
       (inl (all.frames, reads_frames no_message_refused lb ln all.frames all.rest all.comes.0 all.comes.1 all.comes.2, subst (λ (z : List ℕ). WritesFront z wb wn) same ran.0), all.comes.3, ran.1)
   check_ran DiskFault counts all ran = elim ran [ ]
+  check_ran LinkFault counts all ran = elim ran [ ]
+  check_ran NoUnit counts all ran = elim ran [ ]
   check_ran TooLong counts all ran = elim ran [ ]
   check_ran NoMemory counts all ran =
       let same : count_text counts.frames counts.unknown ≡ frame_counts all.frames = ap (λ (n : ℕ). count_text n counts.unknown) all.all ∙ ap (count_text (length all.frames)) all.unknown in
@@ -130,6 +134,8 @@ module _ (lb ln wb wn : Option (List ℕ)) (rb rn kb kn : ℕ) where
   check_told WriteFault place reason all told =
       (inr (all.frames, place, reason, record { rest = all.rest; seen = all.comes.0; at = all.comes.1 }, told.0), all.comes.2, told.1)
   check_told DiskFault place reason all told = elim told [ ]
+  check_told LinkFault place reason all told = elim told [ ]
+  check_told NoUnit place reason all told = elim told [ ]
   check_told TooLong place reason all told = elim told [ ]
   check_told NoMemory place reason all told =
       (inr (inr (all.frames, place, reason, record { rest = all.rest; seen = all.comes.0; at = all.comes.1 }, told.0)), all.comes.2, told.1)
@@ -217,6 +223,8 @@ module _ (bytes : List ℕ) (lb ln wb wn : Option (List ℕ)) (rb rn kb kn : ℕ
   show_runs_of ReadFault a frames told few passes calm_source calm_sink some = absurd (calm_source a.1)
   show_runs_of WriteFault a frames told few passes calm_source calm_sink some = absurd (calm_sink a.2)
   show_runs_of DiskFault a frames told few passes calm_source calm_sink some = elim a [ ]
+  show_runs_of LinkFault a frames told few passes calm_source calm_sink some = elim a [ ]
+  show_runs_of NoUnit a frames told few passes calm_source calm_sink some = elim a [ ]
   show_runs_of TooLong a frames told few passes calm_source calm_sink some = absurd (past_or_whole none_refused bytes lb ln a.0.0 frames a.0.1 told a.0.2 few passes)
   show_runs_of NoMemory a frames told few passes calm_source calm_sink some = absurd (some refl)
   show_runs_of TooLarge a frames told few passes calm_source calm_sink some = elim a [ ]
@@ -231,6 +239,8 @@ module _ (bytes : List ℕ) (lb ln wb wn : Option (List ℕ)) (rb rn kb kn : ℕ
   show_refuses_of ReadFault a frames place reason told has calm_source calm_sink some = absurd (calm_source a.1)
   show_refuses_of WriteFault a frames place reason told has calm_source calm_sink some = absurd (calm_sink a.2)
   show_refuses_of DiskFault a frames place reason told has calm_source calm_sink some = elim a [ ]
+  show_refuses_of LinkFault a frames place reason told has calm_source calm_sink some = elim a [ ]
+  show_refuses_of NoUnit a frames place reason told has calm_source calm_sink some = elim a [ ]
   show_refuses_of TooLong a frames place reason told has calm_source calm_sink some = absurd (past_or_fault none_refused bytes lb ln a.0.0 frames a.0.1 place reason told a.0.2 has)
   show_refuses_of NoMemory a frames place reason told has calm_source calm_sink some = absurd (some refl)
   show_refuses_of TooLarge a frames place reason told has calm_source calm_sink some = elim a [ ]
@@ -242,6 +252,8 @@ module _ (bytes : List ℕ) (lb ln wb wn : Option (List ℕ)) (rb rn kb kn : ℕ
   show_stops_of ReadFault a frames told long has calm_source calm_sink some = absurd (calm_source a.1)
   show_stops_of WriteFault a frames told long has calm_source calm_sink some = absurd (calm_sink a.2)
   show_stops_of DiskFault a frames told long has calm_source calm_sink some = elim a [ ]
+  show_stops_of LinkFault a frames told long has calm_source calm_sink some = elim a [ ]
+  show_stops_of NoUnit a frames told long has calm_source calm_sink some = elim a [ ]
   show_stops_of TooLong a frames told long has calm_source calm_sink some = refl
   show_stops_of NoMemory a frames told long has calm_source calm_sink some = absurd (some refl)
   show_stops_of TooLarge a frames told long has calm_source calm_sink some = elim a [ ]
@@ -253,6 +265,8 @@ module _ (bytes : List ℕ) (lb ln wb wn : Option (List ℕ)) (rb rn kb kn : ℕ
   check_runs_of ReadFault a frames told few passes calm_source calm_sink some = absurd (calm_source a.1)
   check_runs_of WriteFault a frames told few passes calm_source calm_sink some = absurd (calm_sink a.2)
   check_runs_of DiskFault a frames told few passes calm_source calm_sink some = elim a [ ]
+  check_runs_of LinkFault a frames told few passes calm_source calm_sink some = elim a [ ]
+  check_runs_of NoUnit a frames told few passes calm_source calm_sink some = elim a [ ]
   check_runs_of TooLong a frames told few passes calm_source calm_sink some = absurd (past_or_whole no_message_refused bytes lb ln a.0.0 frames a.0.1 told a.0.2 few passes)
   check_runs_of NoMemory a frames told few passes calm_source calm_sink some = absurd (some refl)
   check_runs_of TooLarge a frames told few passes calm_source calm_sink some = elim a [ ]
@@ -264,6 +278,8 @@ module _ (bytes : List ℕ) (lb ln wb wn : Option (List ℕ)) (rb rn kb kn : ℕ
   check_refuses_of ReadFault a frames place reason told has calm_source calm_sink some = absurd (calm_source a.1)
   check_refuses_of WriteFault a frames place reason told has calm_source calm_sink some = absurd (calm_sink a.2)
   check_refuses_of DiskFault a frames place reason told has calm_source calm_sink some = elim a [ ]
+  check_refuses_of LinkFault a frames place reason told has calm_source calm_sink some = elim a [ ]
+  check_refuses_of NoUnit a frames place reason told has calm_source calm_sink some = elim a [ ]
   check_refuses_of TooLong a frames place reason told has calm_source calm_sink some = absurd (past_or_fault no_message_refused bytes lb ln a.0.0 frames a.0.1 place reason told a.0.2 has)
   check_refuses_of NoMemory a frames place reason told has calm_source calm_sink some = absurd (some refl)
   check_refuses_of TooLarge a frames place reason told has calm_source calm_sink some = elim a [ ]
@@ -275,6 +291,8 @@ module _ (bytes : List ℕ) (lb ln wb wn : Option (List ℕ)) (rb rn kb kn : ℕ
   check_stops_of ReadFault a frames told long has calm_source calm_sink some = absurd (calm_source a.1)
   check_stops_of WriteFault a frames told long has calm_source calm_sink some = absurd (calm_sink a.2)
   check_stops_of DiskFault a frames told long has calm_source calm_sink some = elim a [ ]
+  check_stops_of LinkFault a frames told long has calm_source calm_sink some = elim a [ ]
+  check_stops_of NoUnit a frames told long has calm_source calm_sink some = elim a [ ]
   check_stops_of TooLong a frames told long has calm_source calm_sink some = refl
   check_stops_of NoMemory a frames told long has calm_source calm_sink some = absurd (some refl)
   check_stops_of TooLarge a frames told long has calm_source calm_sink some = elim a [ ]

@@ -7,7 +7,7 @@ use Rattle.image_slots.specs.Formats.{formatted_slots, format_calls}
 use Rattle.omci_top.specs.Streams.{ReadsWhole, ReadsPast}
 use Rattle.omci_top.specs.declared.flash.TheConstants.{FLASH_ROOM}
 use Rattle.omci_top.specs.declared.status.Status.{Status}
-use Rattle.omci_top.specs.declared.status.Status.TheVariants.{Done, Usage, Input, ReadFault, WriteFault, DiskFault, TooLong, NoMemory, TooLarge}
+use Rattle.omci_top.specs.declared.status.Status.TheVariants.{Done, Usage, Input, ReadFault, WriteFault, DiskFault, LinkFault, NoUnit, TooLong, NoMemory, TooLarge}
 
 -- The disk reads as bytes that stand for the image in slot 0, which is committed, and none in slot
 -- 1, with a room of 1,048,576 bytes each; and so does what each crash leaves.
@@ -62,6 +62,8 @@ module _ {D : Type 0} (seen : D → Option (List ℕ)) (may_leave : D → List �
   AnswersFlash WriteFault before now left_before left_now read_before read_now = ⊥
   AnswersFlash DiskFault before now left_before left_now read_before read_now =
       FlashesWhole DiskFault before now left_before left_now × (read_now ≡ read_before)
+  AnswersFlash LinkFault before now left_before left_now read_before read_now = ⊥
+  AnswersFlash NoUnit before now left_before left_now read_before read_now = ⊥
   AnswersFlash TooLong before now left_before left_now read_before read_now =
       ReadsPast 16777216 left_before left_now × (read_now ≡ read_before) × (now ≡ before)
   AnswersFlash NoMemory before now left_before left_now read_before read_now =

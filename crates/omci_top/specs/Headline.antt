@@ -1,5 +1,5 @@
--- What is promised of each script, a definition for each phrase of the headline. The history is that
--- of the trace: both are read off one list of what happens.
+-- What is promised of each script, a definition for each phrase of the headline. The history is
+-- that of the trace: both are read off one list of what happens.
 use Rattle.std.specs.Prelude.{ℕ, List, Option, take}
 use Rattle.std.specs.Io.KnownBytes.{Appends}
 use Rattle.script_spec.specs.Script.{Script}
@@ -39,8 +39,8 @@ CopiesDatabases script = SyncedRight (script_history script)
 abbrev pub StaysInStep : Script → Type 0
 StaysInStep script = ScriptInStep script.header script.actions
 
--- Each audit that is completed gives the manager the alarms that the unit put by when it carried out
--- that audit's own command last, followed by the notices that were taken since the reply to it.
+-- Each audit that is completed gives the manager the alarms that the unit put by when it carried
+-- out that audit's own command last, followed by the notices that were taken since the reply to it.
 abbrev pub AuditsAlarms : Script → Type 0
 AuditsAlarms script = AuditedRight (script_history script)
 

@@ -1,7 +1,10 @@
-pub mod Commands
+pub mod Calls
 pub mod Streams
 pub mod Texts
 pub mod Headline
 pub mod Answers
+pub mod Drills
+pub mod Olts
+pub mod Units
 pub mod Flashes
 pub mod Shows

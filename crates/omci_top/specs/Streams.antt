@@ -17,8 +17,10 @@ pub record ReadsPast (limit : ℕ) (before now : Option (List ℕ)) : Type 0 whe
   pub taken : Consumes before now bytes
   pub bound : limit < length bytes
 
--- why reading ended before its end: a fault of the source, a byte past the limit, or want of memory with no fault
+-- why reading ended before its end: a fault of the source, a byte past the limit, or want of memory
+-- with no fault
 abbrev pub EndsReading : ℕ → Option (List ℕ) → Option (List ℕ) → ℕ → ℕ → InputFault → Type 0
 EndsReading limit before now faults_before faults_now Read = Rose faults_before faults_now
-EndsReading limit before now faults_before faults_now TooLong = ReadsPast limit before now × (faults_now ≡ faults_before)
+EndsReading limit before now faults_before faults_now TooLong = ReadsPast limit before now
+    × (faults_now ≡ faults_before)
 EndsReading limit before now faults_before faults_now NoMemory = faults_now ≡ faults_before

@@ -1,4 +1,5 @@
--- What is written of an input: the trace of the script that it spells, or one line that says why there is none.
+-- What is written of an input: the trace of the script that it spells, or one line that says why
+-- there is none.
 use Rattle.std.specs.Prelude.{ℕ, List, ◌++◌, codes, decimal, Result, Ok, Err}
 use Rattle.script_spec.specs.Script.{Script}
 use Rattle.script_spec.specs.Reading.{reading}
@@ -6,7 +7,8 @@ use Rattle.world_spec.specs.Trace.{trace}
 
 -- the line of an input that is refused: where its first fault stands, and the reason
 unfoldable pub input_text : ℕ → ℕ → List ℕ
-input_text place reason = codes "input " ++ decimal place ++ codes " " ++ decimal reason ++ codes "\n"
+input_text place reason = codes "input " ++ decimal place ++ codes " " ++ decimal reason
+    ++ codes "\n"
 
 abbrev pub answer_of : Result Script (ℕ × ℕ) → List ℕ
 answer_of (Ok script) = trace script

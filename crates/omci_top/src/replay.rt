@@ -3,7 +3,7 @@
 ghost use Rattle.std.specs.Prelude.{◌≡◌, ◌≢◌, ◌++◌, Some, None, OnOk, OnErr, IfOk, IfErr};
 ghost use Rattle.std.specs.Io.KnownBytes.{Appends};
 ghost use Rattle.world_spec.specs.Trace.{trace};
-ghost use Rattle.link_replay.specs.Writing.{WritesFront, EndsRun};
+ghost use Rattle.trace_lines.specs.Writing.{WritesFront, EndsRun};
 ghost use Rattle.omci_top.specs.Texts.{input_text};
 ghost use Rattle.omci_top.specs.Answers.{Ran, Told, Ends, AnswersReplay, StandsAfter};
 
@@ -12,24 +12,26 @@ use crate::streams::{InputFault, read_whole};
 use audit_laws::audits_are_snapshots;
 use boot_laws::every_life_boots;
 use downloaded_laws::downloads_are_what_was_checked;
-use link_replay::{RunFault, World, write_all};
+use link_replay::World;
 use omci_contents::{push_bytes, push_number};
 use omci_core::{NoMemory, Sink, Source};
 use replay_script::{Script, ScriptRefusal, read};
 use resync_laws::copies_are_snapshots;
 use std::alloc::Global;
 use step_laws::copies_keep_step;
+use trace_lines::{RunFault, write_all};
 use world_laws::commands_act_once;
 
-/// How a replay ended: the world that ran the events of its script comes with `Done` alone.
+/// How a run of both ends over a script ended: the world that ran its events comes with `Done`
+/// alone.
 #[derive(Drop)]
 pub struct Replayed {
     pub status: Status,
     pub world: Option<World>,
 }
 
-/// A replay that ended with no world.
-fn without_world(status: Status) -> Replayed
+/// A run that ended with no world.
+pub(crate) fn without_world(status: Status) -> Replayed
     ensures status { result.status ≡ status }
     ensures no_world { result.world ≡ None }
 {

@@ -18,6 +18,10 @@ pub enum Status {
     WriteFault,
     /// The disk failed.
     DiskFault,
+    /// The link failed.
+    LinkFault,
+    /// The disk has no image slots, or no image in the committed one.
+    NoUnit,
     /// The input has more than 16,777,216 bytes.
     TooLong,
     /// There was not enough memory.
@@ -38,6 +42,8 @@ impl Status {
             Status::ReadFault => 3,
             Status::WriteFault => 4,
             Status::DiskFault => 5,
+            Status::LinkFault => 6,
+            Status::NoUnit => 7,
             Status::TooLong => 8,
             Status::NoMemory => 9,
             Status::TooLarge => 10,

@@ -1,4 +1,5 @@
-//! The plain types of the OMCI channel, which definitions and code share. Derives alone: nothing here has a body.
+//! The plain types of the OMCI channel, which definitions and code share. Derives alone: nothing
+//! here has a body.
 #![tactic(auto)]
 
 /// The two priorities of ITU-T G.988. A TCI whose top bit is set is of high priority.
@@ -8,14 +9,16 @@ pub enum Priority {
     High,
 }
 
-/// A managed entity: its class and its instance (ITU-T G.988, clause 11.2.4). Ordered by class, then instance.
+/// A managed entity: its class and its instance (ITU-T G.988, clause 11.2.4). Ordered by class,
+/// then instance.
 #[derive(Clone, Copy, Debug, PartialEq, Eq, PartialOrd, Ord)]
 pub struct EntityId {
     pub class: u16,
     pub instance: u16,
 }
 
-/// The result code of a response (ITU-T G.988, clause 11.2.5). A byte with no name here is kept as it came.
+/// The result code of a response (ITU-T G.988, clause 11.2.5). A byte with no name here is kept as
+/// it came.
 #[derive(Clone, Copy, Debug, PartialEq, Eq)]
 pub struct Code(pub u8);
 
@@ -40,7 +43,8 @@ impl Code {
     pub const ATTRIBUTES_FAILED: Code = Code(9);
 }
 
-/// A baseline frame (ITU-T G.988, clause 11.2): what its 48 bytes say, apart from the parts that never differ.
+/// A baseline frame (ITU-T G.988, clause 11.2): what its 48 bytes say, apart from the parts that
+/// never differ.
 #[derive(Clone, Copy, Debug, PartialEq, Eq)]
 pub struct Frame {
     /// The transaction correlation identifier.
@@ -63,7 +67,8 @@ pub struct SlotView {
     pub version: [u8; 14],
 }
 
-/// The two software images of a unit: what each valid one is, which is committed, and which is active.
+/// The two software images of a unit: what each valid one is, which is committed, and which is
+/// active.
 #[derive(Clone, Copy, Debug, PartialEq, Eq)]
 pub struct Software {
     pub first: Option<SlotView>,

@@ -15,7 +15,8 @@ ghost use Rattle.unit_spec.specs.Noticing.{onu_sensed, onu_alarmed, alarm_takes}
 ghost use Rattle.unit_spec.specs.Onu.{Onu, onu_started, onu_ticked, takes_memory};
 ghost use Rattle.image_store.specs.declared.state.State.{State as Form};
 ghost use Rattle.image_store.specs.Stands.{state_disk};
-ghost use Rattle.image_store.specs.Carries.{HasNoTrap};
+ghost use Rattle.image_store.specs.Carries.{Caused, HasNoTrap};
+ghost use Rattle.image_store.specs.Counts.{StoreCounts, store_faults};
 ghost use Rattle.image_store.specs.Starts.{Started, IsUnit};
 ghost use Rattle.onu_agent.specs.declared.agent.StartRefusal.TheVariants.{NoUnit};
 ghost use Rattle.onu_agent.specs.State.{AgentStands, Tells};
@@ -138,6 +139,10 @@ impl<D: Disk> Agent<D> {
             → agent.unit.images.state ≡ Some state → HasNoTrap (D.rig (state_disk state)))
             (λ refusal. is_fault refusal ≡ false) }
         ensures sound { IfOk result (λ agent. agent.spent ≡ false) }
+        ensures count { MatchResult result
+            (λ agent. store_faults D.faults agent.unit.images ≡ D.faults disk)
+            (λ refusal. Caused (is_fault refusal) (D.faults disk)
+            (D.faults (given_back refusal))) }
     {
         let images = match Images::start(disk, size, boot) {
             Ok(images) => images,
@@ -171,6 +176,7 @@ impl<D: Disk> Agent<D> {
         ensures spent { self.old.spent ≡ true → OnOk result ⊥ }
         ensures spends { OnErr result (self.new.spent ≡ true) }
         ensures images { OnErr result (self.new.unit.images ≡ self.old.unit.images) }
+        ensures count { StoreCounts D.faults self.old.unit.images self.new.unit.images }
     {
         if self.spent {
             out.clear();
@@ -279,6 +285,7 @@ impl<D: Disk> Agent<D> {
     pub fn stop(self) -> D
         ensures disk { (state : Form D) → self.unit.images.state ≡ Some state
             → result ≡ state_disk state }
+        ensures count { D.faults result ≡ store_faults D.faults self.unit.images }
     {
         self.unit.stop()
     }
@@ -298,6 +305,8 @@ impl<D: Rig> Agent<D> {
             images = record self.old.unit.images { state = self.new.unit.images.state };
           };
         } }
+        ensures count { store_faults D.faults self.new.unit.images
+            ≡ store_faults D.faults self.old.unit.images }
     {
         self.unit.rig(trap);
     }

@@ -31,7 +31,8 @@ const ONU_G: u16 = 256;
 
 const T_CONT: u16 = 262;
 
-/// The database. Of the classes that the unit makes, it has no other entities than those of its start.
+/// The database. Of the classes that the unit makes, it has no other entities than those of its
+/// start.
 #[derive(Drop)]
 pub struct Store {
     mib: Mib,

@@ -18,6 +18,7 @@ ghost use Rattle.unit_spec.specs.Onu.{unless_quiet, asks_nothing, take_section, 
 ghost use Rattle.unit_spec.specs.Onu.{has_request_bits, takes_room, onu_ticked};
 ghost use Rattle.image_store.specs.declared.state.State.{State as Form};
 ghost use Rattle.image_store.specs.Stands.{state_disk};
+ghost use Rattle.image_store.specs.Counts.{StoreCounts, store_faults};
 ghost use Rattle.onu_agent.specs.State.{UnitStands, Tells};
 ghost use Rattle.onu_agent.specs.Received.{Came, Received, CarriedOut};
 ghost use Rattle.onu_agent.specs.Images.{is_for_image};
@@ -75,6 +76,7 @@ impl<D: Disk> Unit<D> {
         ensures memory { (u : Onu) → UnitStands D.seen D.may_leave self.old u
             → OnErr result (takes_memory bytes.now u ≡ true) }
         ensures images { OnErr result (self.new.images ≡ self.old.images) }
+        ensures count { StoreCounts D.faults self.old.images self.new.images }
     {
         match packet_frame(bytes) {
             None => Ok(drop_packet(out)),
@@ -98,6 +100,7 @@ impl<D: Disk> Unit<D> {
         ensures memory { (u : Onu) → UnitStands D.seen D.may_leave self.old u
             → OnErr result (message_takes read.now frame.now u ≡ true) }
         ensures images { OnErr result (self.new.images ≡ self.old.images) }
+        ensures count { StoreCounts D.faults self.old.images self.new.images }
     {
         match read {
             Ok(Message::Asked { request, .. }) => self.request(request, frame, out),
@@ -127,6 +130,7 @@ impl<D: Disk> Unit<D> {
             (message_takes (Ok (message.Asked frame.now.tci frame.now.entity request.now))
             frame.now u ≡ true) }
         ensures images { OnErr result (self.new.images ≡ self.old.images) }
+        ensures count { StoreCounts D.faults self.old.images self.new.images }
     {
         if is_quiet(request) {
             return Ok(self.section(request, frame, out));
@@ -151,6 +155,7 @@ impl<D: Disk> Unit<D> {
             (deed_unless_kept (kept_for frame.now.tci u.kept) u.leaving
             (image_deed frame.now request.now u)) u }
         ensures did { (result ≡ did.Dropped) ⊎ (result ≡ did.Held) }
+        ensures count { StoreCounts D.faults self.old.images self.new.images }
     {
         if self.desk.keeps(frame.tci) {
             return drop_packet(out);
@@ -169,6 +174,7 @@ impl<D: Disk> Unit<D> {
             → Came D.seen D.may_leave D.clock D.left_since D.rig D.faults self.old self.new result
             out.new (λ fails. if_request (has_request_bits frame.now.kind) frame.now u) Ignore u }
         ensures whole { result ≢ did.Dropped → length out.new ≡ 48 }
+        ensures count { StoreCounts D.faults self.old.images self.new.images }
     {
         if !is_request(frame.kind) {
             return drop_packet(out);
@@ -187,12 +193,14 @@ impl<D: Disk> Unit<D> {
     fn carry_out(&mut self, frame: &Frame, request: &Request) -> Result<Deed, NoMemory>
         requires window { RequestWindow request.now }
         ensures carried { (u : Onu) → UnitStands D.seen D.may_leave self.old u
-            → IfOk result (λ deed. CarriedOut D.seen D.may_leave D.clock D.left_since D.rig D.faults self.old self.new
+            → IfOk result (λ deed. CarriedOut D.seen D.may_leave D.clock D.left_since D.rig D.faults
+            self.old self.new
             deed.reply deed.note (λ fails. answer fails frame.now request.now u)
             (image_deed frame.now request.now u) u) }
         ensures memory { OnErr result
             (takes_room frame.now request.now self.old.desk.database ≡ true) }
         ensures images { OnErr result (self.new.images ≡ self.old.images) }
+        ensures count { StoreCounts D.faults self.old.images self.new.images }
     {
         match request {
             Request::Start { .. }
@@ -221,6 +229,7 @@ impl<D: Disk> Unit<D> {
             → CarriedOut D.seen D.may_leave D.clock D.left_since D.rig D.faults self.old self.new
             result.reply result.note (λ fails. answer fails frame.now request.now u)
             (image_deed frame.now request.now u) u }
+        ensures count { StoreCounts D.faults self.old.images self.new.images }
     {
         let slot = slot_of(frame.entity);
         let handled = self.images.carry(frame.tci, frame.entity, request);
@@ -336,6 +345,7 @@ impl<D: Disk> Unit<D> {
     pub fn stop(self) -> D
         ensures disk { (state : Form D) → self.images.state ≡ Some state
             → result ≡ state_disk state }
+        ensures count { D.faults result ≡ store_faults D.faults self.images }
     {
         self.images.unmount()
     }
@@ -353,6 +363,8 @@ impl<D: Rig> Unit<D> {
         ensures same { self.new ≡ record self.old {
           images = record self.old.images { state = self.new.images.state };
         } }
+        ensures count { store_faults D.faults self.new.images
+            ≡ store_faults D.faults self.old.images }
     {
         self.images.rig(trap);
     }

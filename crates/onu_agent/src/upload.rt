@@ -49,7 +49,8 @@ impl Upload {
 
     /// What is told of it.
     pub fn note(&self) -> Note
-        ensures value { result ≡ note.Snapshot (length self.now.database) (counter self.now.database) }
+        ensures value { result
+            ≡ note.Snapshot (length self.now.database) (counter self.now.database) }
     {
         Note::Snapshot {
             entities: self.snapshot.entities(),

@@ -1,6 +1,6 @@
-//! Shows and checks each stream of the input, and compares what comes of it where its bytes are given
-//! in pieces of 1, 2, 3, 7 and 64 bytes. A stream stands in the input as its length in 4 bytes, and
-//! then its bytes.
+//! Shows and checks each stream of the input, and compares what comes of it where its bytes are
+//! given in pieces of 1, 2, 3, 7 and 64 bytes. A stream stands in the input as its length in 4
+//! bytes, and then its bytes.
 #![tactic(auto)]
 
 mod given;

@@ -67,8 +67,8 @@ pub fn said_of(alloc: Global, stream: &[u8], most: usize) -> Result<Said, NoMemo
     Ok(Said { shown, checked })
 }
 
-/// What a reader of both sets gives of a stream that is offered to it in pieces of so many bytes, as
-/// `show` says it.
+/// What a reader of both sets gives of a stream that is offered to it in pieces of so many bytes,
+/// as `show` says it.
 pub fn said_by_calls(alloc: Global, stream: &[u8], most: usize) -> Result<Vec<u8>, NoMemory> {
     let mut out = Vec::new(alloc);
     push_calls(alloc, &mut out, stream, most)?;

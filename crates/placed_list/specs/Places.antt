@@ -26,7 +26,8 @@ pub record IsIndex {T : Type 0} (items : List T) (order : List ℕ) (count : ℕ
   pub used : count ≤ length items
 
 -- the first free place has the item; what was there is as it was
-pub record Lodges {T : Type 0} (old new : List T) (order order' : List ℕ) (count : ℕ) (item : T) : Type 0 where
+pub record Lodges {T : Type 0} (old new : List T) (order order' : List ℕ) (count : ℕ) (item : T)
+    : Type 0 where
   pub places : IsOrder (length new) order'
   pub room : count < length new
   pub front : take count order' ≡ take count order

@@ -113,7 +113,8 @@ fn write_in<T: Copy>(items: &mut [T], order: &[u16], at: usize, item: T)
     requires inside { All (λ place. place < length items.old) order.now }
     requires distinct { IsDistinct eqb order.now }
     requires there { at < length order.now }
-    ensures written { in_order items.new order.now ≡ slice_set (in_order items.old order.now) at item }
+    ensures written { in_order items.new order.now
+        ≡ slice_set (in_order items.old order.now) at item }
     ensures len { length items.new ≡ length items.old }
 {
     items[order[at] as usize] = item;

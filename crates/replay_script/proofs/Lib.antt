@@ -4,3 +4,5 @@ pub mod Left
 pub mod Names
 pub mod Faults
 pub mod Public
+pub mod Vectors
+pub mod FewHex

@@ -10,8 +10,7 @@ use crate::script::Event;
 use crate::words::LineWords;
 use omci_core::EntityId;
 use script_spec::{
-    Document, LAST_PACKET, Line, MAX_ASKED, MAX_ATTRIBUTE, MAX_BITMAP, MAX_CALL, MAX_CREATE,
-    MAX_FLOW, MAX_IMAGE, MAX_SENSED, MAX_SET,
+    Document, LAST_PACKET, Line, MAX_ASKED, MAX_ATTRIBUTE, MAX_CALL, MAX_FLOW, MAX_IMAGE,
 };
 use std::alloc::Global;
 
@@ -26,38 +25,38 @@ pub(crate) fn event_of(
 {
     let line = words.line(document)?;
     match line {
-        Line::Probe => probe_event(words),
-        Line::Reset => reset_event(words),
-        Line::Get => get_event(words),
-        Line::Create => create_event(alloc, words),
-        Line::Set => set_event(alloc, words),
-        Line::Delete => delete_event(words),
-        Line::Activate => activate_event(words),
-        Line::Commit => commit_event(words),
-        Line::Reboot => reboot_event(words),
-        Line::Resync => resync_event(words),
-        Line::Audit => audit_event(words),
-        Line::Check => check_event(words),
-        Line::Image => image_event(alloc, words),
-        Line::Deliver => deliver_event(words),
-        Line::Flow => flow_event(words),
-        Line::CutIn => cut_in_event(words),
-        Line::NoiseUnit => noise_unit_event(alloc, words),
-        Line::NoiseOlt => noise_olt_event(alloc, words),
-        Line::Tick => tick_event(words),
-        Line::Sense => sense_event(alloc, words),
-        Line::Alarm => alarm_event(alloc, words),
-        Line::CutUnit => cut_unit_event(words),
-        Line::CutOlt => cut_olt_event(words),
-        Line::StartUnit => start_unit_event(words),
-        Line::StartOlt => start_olt_event(words),
+        Line::Probe => probe_event(&mut words),
+        Line::Reset => reset_event(&mut words),
+        Line::Get => get_event(&mut words),
+        Line::Create => create_event(&mut words),
+        Line::Set => set_event(&mut words),
+        Line::Delete => delete_event(&mut words),
+        Line::Activate => activate_event(&mut words),
+        Line::Commit => commit_event(&mut words),
+        Line::Reboot => reboot_event(&mut words),
+        Line::Resync => resync_event(&words),
+        Line::Audit => audit_event(&words),
+        Line::Check => check_event(&words),
+        Line::Image => image_event(alloc, &mut words),
+        Line::Deliver => deliver_event(&mut words),
+        Line::Flow => flow_event(&mut words),
+        Line::CutIn => cut_in_event(&mut words),
+        Line::NoiseUnit => noise_unit_event(alloc, &mut words),
+        Line::NoiseOlt => noise_olt_event(alloc, &mut words),
+        Line::Tick => tick_event(&words),
+        Line::Sense => sense_event(&mut words),
+        Line::Alarm => alarm_event(&mut words),
+        Line::CutUnit => cut_unit_event(&words),
+        Line::CutOlt => cut_olt_event(&words),
+        Line::StartUnit => start_unit_event(&words),
+        Line::StartOlt => start_olt_event(&mut words),
     }
 }
 
 /// The words after `probe`: LANE.
 #[tactic(auto, unfolding(script_spec::specs::Reading::action_at))]
-fn probe_event(mut words: LineWords<'_>) -> Result<Event, LineRefusal>
-    ensures value { Gives action_of result (action_at Line.Probe words.entry) }
+fn probe_event(words: &mut LineWords<'_>) -> Result<Event, LineRefusal>
+    ensures value { Gives action_of result (action_at Line.Probe words.old) }
 {
     words.expect(1)?;
     Ok(Event::Probe {
@@ -67,8 +66,8 @@ fn probe_event(mut words: LineWords<'_>) -> Result<Event, LineRefusal>
 
 /// The words after `reset`: LANE.
 #[tactic(auto, unfolding(script_spec::specs::Reading::action_at))]
-fn reset_event(mut words: LineWords<'_>) -> Result<Event, LineRefusal>
-    ensures value { Gives action_of result (action_at Line.Reset words.entry) }
+fn reset_event(words: &mut LineWords<'_>) -> Result<Event, LineRefusal>
+    ensures value { Gives action_of result (action_at Line.Reset words.old) }
 {
     words.expect(1)?;
     Ok(Event::Reset {
@@ -78,8 +77,8 @@ fn reset_event(mut words: LineWords<'_>) -> Result<Event, LineRefusal>
 
 /// The words after `get`: LANE CLASS INSTANCE MASK.
 #[tactic(auto, unfolding(script_spec::specs::Reading::action_at))]
-fn get_event(mut words: LineWords<'_>) -> Result<Event, LineRefusal>
-    ensures value { Gives action_of result (action_at Line.Get words.entry) }
+fn get_event(words: &mut LineWords<'_>) -> Result<Event, LineRefusal>
+    ensures value { Gives action_of result (action_at Line.Get words.old) }
 {
     words.expect(4)?;
     Ok(Event::Get {
@@ -94,8 +93,8 @@ fn get_event(mut words: LineWords<'_>) -> Result<Event, LineRefusal>
 
 /// The words after `create`: LANE CLASS INSTANCE HEX.
 #[tactic(auto, unfolding(script_spec::specs::Reading::action_at))]
-fn create_event(alloc: Global, mut words: LineWords<'_>) -> Result<Event, LineRefusal>
-    ensures value { Gives action_of result (action_at Line.Create words.entry) }
+fn create_event(words: &mut LineWords<'_>) -> Result<Event, LineRefusal>
+    ensures value { Gives action_of result (action_at Line.Create words.old) }
 {
     words.expect(4)?;
     Ok(Event::Create {
@@ -104,14 +103,14 @@ fn create_event(alloc: Global, mut words: LineWords<'_>) -> Result<Event, LineRe
             class: words.id()?,
             instance: words.id()?,
         },
-        values: words.bytes(alloc, 0, MAX_CREATE)?,
+        values: words.few_bytes(0)?,
     })
 }
 
 /// The words after `set`: LANE CLASS INSTANCE MASK HEX.
 #[tactic(auto, unfolding(script_spec::specs::Reading::action_at))]
-fn set_event(alloc: Global, mut words: LineWords<'_>) -> Result<Event, LineRefusal>
-    ensures value { Gives action_of result (action_at Line.Set words.entry) }
+fn set_event(words: &mut LineWords<'_>) -> Result<Event, LineRefusal>
+    ensures value { Gives action_of result (action_at Line.Set words.old) }
 {
     words.expect(5)?;
     Ok(Event::Set {
@@ -121,14 +120,14 @@ fn set_event(alloc: Global, mut words: LineWords<'_>) -> Result<Event, LineRefus
             instance: words.id()?,
         },
         mask: words.mask()?,
-        values: words.bytes(alloc, 0, MAX_SET)?,
+        values: words.few_bytes(0)?,
     })
 }
 
 /// The words after `delete`: LANE CLASS INSTANCE.
 #[tactic(auto, unfolding(script_spec::specs::Reading::action_at))]
-fn delete_event(mut words: LineWords<'_>) -> Result<Event, LineRefusal>
-    ensures value { Gives action_of result (action_at Line.Delete words.entry) }
+fn delete_event(words: &mut LineWords<'_>) -> Result<Event, LineRefusal>
+    ensures value { Gives action_of result (action_at Line.Delete words.old) }
 {
     words.expect(3)?;
     Ok(Event::Delete {
@@ -142,8 +141,8 @@ fn delete_event(mut words: LineWords<'_>) -> Result<Event, LineRefusal>
 
 /// The words after `activate`: LANE SLOT.
 #[tactic(auto, unfolding(script_spec::specs::Reading::action_at))]
-fn activate_event(mut words: LineWords<'_>) -> Result<Event, LineRefusal>
-    ensures value { Gives action_of result (action_at Line.Activate words.entry) }
+fn activate_event(words: &mut LineWords<'_>) -> Result<Event, LineRefusal>
+    ensures value { Gives action_of result (action_at Line.Activate words.old) }
 {
     words.expect(2)?;
     Ok(Event::Activate {
@@ -154,8 +153,8 @@ fn activate_event(mut words: LineWords<'_>) -> Result<Event, LineRefusal>
 
 /// The words after `commit`: LANE SLOT.
 #[tactic(auto, unfolding(script_spec::specs::Reading::action_at))]
-fn commit_event(mut words: LineWords<'_>) -> Result<Event, LineRefusal>
-    ensures value { Gives action_of result (action_at Line.Commit words.entry) }
+fn commit_event(words: &mut LineWords<'_>) -> Result<Event, LineRefusal>
+    ensures value { Gives action_of result (action_at Line.Commit words.old) }
 {
     words.expect(2)?;
     Ok(Event::Commit {
@@ -166,8 +165,8 @@ fn commit_event(mut words: LineWords<'_>) -> Result<Event, LineRefusal>
 
 /// The word after `reboot`: LANE.
 #[tactic(auto, unfolding(script_spec::specs::Reading::action_at))]
-fn reboot_event(mut words: LineWords<'_>) -> Result<Event, LineRefusal>
-    ensures value { Gives action_of result (action_at Line.Reboot words.entry) }
+fn reboot_event(words: &mut LineWords<'_>) -> Result<Event, LineRefusal>
+    ensures value { Gives action_of result (action_at Line.Reboot words.old) }
 {
     words.expect(1)?;
     Ok(Event::Reboot {
@@ -177,8 +176,8 @@ fn reboot_event(mut words: LineWords<'_>) -> Result<Event, LineRefusal>
 
 /// The words after `image`: SLOT WINDOW CHECK HEX.
 #[tactic(auto, unfolding(script_spec::specs::Reading::action_at))]
-fn image_event(alloc: Global, mut words: LineWords<'_>) -> Result<Event, LineRefusal>
-    ensures value { Gives action_of result (action_at Line.Image words.entry) }
+fn image_event(alloc: Global, words: &mut LineWords<'_>) -> Result<Event, LineRefusal>
+    ensures value { Gives action_of result (action_at Line.Image words.old) }
 {
     words.expect(4)?;
     Ok(Event::Image {
@@ -191,8 +190,8 @@ fn image_event(alloc: Global, mut words: LineWords<'_>) -> Result<Event, LineRef
 
 /// The words after `cutin`: the packet's number, the device call's, and the pick.
 #[tactic(auto, unfolding(script_spec::specs::Reading::action_at))]
-fn cut_in_event(mut words: LineWords<'_>) -> Result<Event, LineRefusal>
-    ensures value { Gives action_of result (action_at Line.CutIn words.entry) }
+fn cut_in_event(words: &mut LineWords<'_>) -> Result<Event, LineRefusal>
+    ensures value { Gives action_of result (action_at Line.CutIn words.old) }
 {
     words.expect(3)?;
     Ok(Event::CutIn {
@@ -204,8 +203,8 @@ fn cut_in_event(mut words: LineWords<'_>) -> Result<Event, LineRefusal>
 
 /// No word stands after `resync`.
 #[tactic(auto, unfolding(script_spec::specs::Reading::action_at))]
-fn resync_event(words: LineWords<'_>) -> Result<Event, LineRefusal>
-    ensures value { Gives action_of result (action_at Line.Resync words.entry) }
+fn resync_event(words: &LineWords<'_>) -> Result<Event, LineRefusal>
+    ensures value { Gives action_of result (action_at Line.Resync words.now) }
 {
     words.expect(0)?;
     Ok(Event::Resync)
@@ -213,8 +212,8 @@ fn resync_event(words: LineWords<'_>) -> Result<Event, LineRefusal>
 
 /// No word stands after `audit`.
 #[tactic(auto, unfolding(script_spec::specs::Reading::action_at))]
-fn audit_event(words: LineWords<'_>) -> Result<Event, LineRefusal>
-    ensures value { Gives action_of result (action_at Line.Audit words.entry) }
+fn audit_event(words: &LineWords<'_>) -> Result<Event, LineRefusal>
+    ensures value { Gives action_of result (action_at Line.Audit words.now) }
 {
     words.expect(0)?;
     Ok(Event::Audit)
@@ -222,8 +221,8 @@ fn audit_event(words: LineWords<'_>) -> Result<Event, LineRefusal>
 
 /// No word stands after `check`.
 #[tactic(auto, unfolding(script_spec::specs::Reading::action_at))]
-fn check_event(words: LineWords<'_>) -> Result<Event, LineRefusal>
-    ensures value { Gives action_of result (action_at Line.Check words.entry) }
+fn check_event(words: &LineWords<'_>) -> Result<Event, LineRefusal>
+    ensures value { Gives action_of result (action_at Line.Check words.now) }
 {
     words.expect(0)?;
     Ok(Event::Check)
@@ -231,8 +230,8 @@ fn check_event(words: LineWords<'_>) -> Result<Event, LineRefusal>
 
 /// The word after `deliver`: the packet's number.
 #[tactic(auto, unfolding(script_spec::specs::Reading::action_at))]
-fn deliver_event(mut words: LineWords<'_>) -> Result<Event, LineRefusal>
-    ensures value { Gives action_of result (action_at Line.Deliver words.entry) }
+fn deliver_event(words: &mut LineWords<'_>) -> Result<Event, LineRefusal>
+    ensures value { Gives action_of result (action_at Line.Deliver words.old) }
 {
     words.expect(1)?;
     Ok(Event::Deliver {
@@ -242,8 +241,8 @@ fn deliver_event(mut words: LineWords<'_>) -> Result<Event, LineRefusal>
 
 /// The word after `flow`: how many packets at most.
 #[tactic(auto, unfolding(script_spec::specs::Reading::action_at))]
-fn flow_event(mut words: LineWords<'_>) -> Result<Event, LineRefusal>
-    ensures value { Gives action_of result (action_at Line.Flow words.entry) }
+fn flow_event(words: &mut LineWords<'_>) -> Result<Event, LineRefusal>
+    ensures value { Gives action_of result (action_at Line.Flow words.old) }
 {
     words.expect(1)?;
     Ok(Event::Flow {
@@ -253,8 +252,8 @@ fn flow_event(mut words: LineWords<'_>) -> Result<Event, LineRefusal>
 
 /// The word after `noise unit`: the bytes.
 #[tactic(auto, unfolding(script_spec::specs::Reading::action_at))]
-fn noise_unit_event(alloc: Global, mut words: LineWords<'_>) -> Result<Event, LineRefusal>
-    ensures value { Gives action_of result (action_at Line.NoiseUnit words.entry) }
+fn noise_unit_event(alloc: Global, words: &mut LineWords<'_>) -> Result<Event, LineRefusal>
+    ensures value { Gives action_of result (action_at Line.NoiseUnit words.old) }
 {
     words.expect(1)?;
     Ok(Event::NoiseUnit {
@@ -264,8 +263,8 @@ fn noise_unit_event(alloc: Global, mut words: LineWords<'_>) -> Result<Event, Li
 
 /// The word after `noise olt`: the bytes.
 #[tactic(auto, unfolding(script_spec::specs::Reading::action_at))]
-fn noise_olt_event(alloc: Global, mut words: LineWords<'_>) -> Result<Event, LineRefusal>
-    ensures value { Gives action_of result (action_at Line.NoiseOlt words.entry) }
+fn noise_olt_event(alloc: Global, words: &mut LineWords<'_>) -> Result<Event, LineRefusal>
+    ensures value { Gives action_of result (action_at Line.NoiseOlt words.old) }
 {
     words.expect(1)?;
     Ok(Event::NoiseOlt {
@@ -275,8 +274,8 @@ fn noise_olt_event(alloc: Global, mut words: LineWords<'_>) -> Result<Event, Lin
 
 /// No word stands after `tick`.
 #[tactic(auto, unfolding(script_spec::specs::Reading::action_at))]
-fn tick_event(words: LineWords<'_>) -> Result<Event, LineRefusal>
-    ensures value { Gives action_of result (action_at Line.Tick words.entry) }
+fn tick_event(words: &LineWords<'_>) -> Result<Event, LineRefusal>
+    ensures value { Gives action_of result (action_at Line.Tick words.now) }
 {
     words.expect(0)?;
     Ok(Event::Tick)
@@ -284,8 +283,8 @@ fn tick_event(words: LineWords<'_>) -> Result<Event, LineRefusal>
 
 /// The words after `sense`: CLASS INSTANCE ATTRIBUTE HEX.
 #[tactic(auto, unfolding(script_spec::specs::Reading::action_at))]
-fn sense_event(alloc: Global, mut words: LineWords<'_>) -> Result<Event, LineRefusal>
-    ensures value { Gives action_of result (action_at Line.Sense words.entry) }
+fn sense_event(words: &mut LineWords<'_>) -> Result<Event, LineRefusal>
+    ensures value { Gives action_of result (action_at Line.Sense words.old) }
 {
     words.expect(4)?;
     Ok(Event::Sense {
@@ -294,14 +293,14 @@ fn sense_event(alloc: Global, mut words: LineWords<'_>) -> Result<Event, LineRef
             instance: words.id()?,
         },
         number: words.number(1, MAX_ATTRIBUTE)? as u8,
-        value: words.bytes(alloc, 1, MAX_SENSED)?,
+        value: words.few_bytes(1)?,
     })
 }
 
 /// The words after `alarm`: CLASS INSTANCE HEX.
 #[tactic(auto, unfolding(script_spec::specs::Reading::action_at))]
-fn alarm_event(alloc: Global, mut words: LineWords<'_>) -> Result<Event, LineRefusal>
-    ensures value { Gives action_of result (action_at Line.Alarm words.entry) }
+fn alarm_event(words: &mut LineWords<'_>) -> Result<Event, LineRefusal>
+    ensures value { Gives action_of result (action_at Line.Alarm words.old) }
 {
     words.expect(3)?;
     Ok(Event::Alarm {
@@ -309,14 +308,14 @@ fn alarm_event(alloc: Global, mut words: LineWords<'_>) -> Result<Event, LineRef
             class: words.id()?,
             instance: words.id()?,
         },
-        bitmap: words.bytes(alloc, 0, MAX_BITMAP)?,
+        bitmap: words.few_bytes(0)?,
     })
 }
 
 /// No word stands after `cut unit`.
 #[tactic(auto, unfolding(script_spec::specs::Reading::action_at))]
-fn cut_unit_event(words: LineWords<'_>) -> Result<Event, LineRefusal>
-    ensures value { Gives action_of result (action_at Line.CutUnit words.entry) }
+fn cut_unit_event(words: &LineWords<'_>) -> Result<Event, LineRefusal>
+    ensures value { Gives action_of result (action_at Line.CutUnit words.now) }
 {
     words.expect(0)?;
     Ok(Event::CutUnit)
@@ -324,8 +323,8 @@ fn cut_unit_event(words: LineWords<'_>) -> Result<Event, LineRefusal>
 
 /// No word stands after `cut olt`.
 #[tactic(auto, unfolding(script_spec::specs::Reading::action_at))]
-fn cut_olt_event(words: LineWords<'_>) -> Result<Event, LineRefusal>
-    ensures value { Gives action_of result (action_at Line.CutOlt words.entry) }
+fn cut_olt_event(words: &LineWords<'_>) -> Result<Event, LineRefusal>
+    ensures value { Gives action_of result (action_at Line.CutOlt words.now) }
 {
     words.expect(0)?;
     Ok(Event::CutOlt)
@@ -333,8 +332,8 @@ fn cut_olt_event(words: LineWords<'_>) -> Result<Event, LineRefusal>
 
 /// No word stands after `start unit`.
 #[tactic(auto, unfolding(script_spec::specs::Reading::action_at))]
-fn start_unit_event(words: LineWords<'_>) -> Result<Event, LineRefusal>
-    ensures value { Gives action_of result (action_at Line.StartUnit words.entry) }
+fn start_unit_event(words: &LineWords<'_>) -> Result<Event, LineRefusal>
+    ensures value { Gives action_of result (action_at Line.StartUnit words.now) }
 {
     words.expect(0)?;
     Ok(Event::StartUnit)
@@ -342,8 +341,8 @@ fn start_unit_event(words: LineWords<'_>) -> Result<Event, LineRefusal>
 
 /// The words after `start olt`: the lanes' first numbers.
 #[tactic(auto, unfolding(script_spec::specs::Reading::action_at))]
-fn start_olt_event(mut words: LineWords<'_>) -> Result<Event, LineRefusal>
-    ensures value { Gives action_of result (action_at Line.StartOlt words.entry) }
+fn start_olt_event(words: &mut LineWords<'_>) -> Result<Event, LineRefusal>
+    ensures value { Gives action_of result (action_at Line.StartOlt words.old) }
 {
     words.expect(2)?;
     Ok(Event::StartOlt {

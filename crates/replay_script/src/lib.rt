@@ -3,6 +3,7 @@
 #![tactic(auto)]
 
 mod events;
+mod few_bytes;
 mod lines;
 mod orders;
 mod printing;
@@ -11,6 +12,7 @@ mod refusal;
 mod script;
 mod words;
 
+pub use few_bytes::FewBytes;
 pub use orders::Orders;
 pub use printing::print;
 pub use reading::{read, read_orders};

@@ -1,12 +1,14 @@
 //! The lines of a script or of orders, and which of them are passed over.
 
-ghost use Rattle.std.specs.Prelude.{◌≡◌, ◌==◌, ◌+◌, ◌≤◌, ◌<◌, ◌∷◌, length, MatchResult, IfOk};
+ghost use Rattle.std.specs.Prelude.{◌≡◌, ◌==◌, ◌+◌, ◌≤◌, ◌<◌, ◌∷◌, length, map, MatchResult, IfOk};
 ghost use Rattle.std.specs.List.{position};
+ghost use Rattle.std.specs.Simd.Lanes.{mask_l};
 ghost use Rattle.script_spec.specs.Text.{lines_of, is_passed_over};
 ghost use Rattle.replay_script.specs.Answers.{IsTextOf, IsFirstLine, LacksHeader};
 
 use crate::refusal::ScriptRefusal;
 use script_spec::HEADER_FAULT;
+use std::simd::prelude::*;
 
 /// The first line that isn't passed over.
 #[derive(Clone, Copy)]
@@ -50,7 +52,7 @@ pub(crate) fn next_line(bytes: &[u8]) -> (&[u8], &[u8])
     ensures lines { lines_of bytes.now ≡ result.0.now ∷ lines_of result.1.now }
     ensures shorter { length result.1.now < length bytes.now }
 {
-    match place_of(bytes, b'\n') {
+    match far_place_of(bytes, b'\n') {
         None => (bytes, &[]),
         Some(end) => (without_return(&bytes[..end]), &bytes[end + 1..]),
     }
@@ -64,10 +66,40 @@ fn without_return(line: &[u8]) -> &[u8]
 }
 
 /// The place of the first byte of this value.
-pub(crate) fn place_of(bytes: &[u8], wanted: u8) -> Option<usize>
+fn place_of(bytes: &[u8], wanted: u8) -> Option<usize>
     ensures value { result ≡ position (λ b. b == wanted) bytes.now }
 {
     bytes.iter().position(|byte| *byte == wanted)
+}
+
+/// So many bytes are compared at a time.
+pub(crate) const LANES: usize = 16;
+
+/// The place of the first byte of this value, where it may be far: [`LANES`] bytes are compared at
+/// a time.
+pub(crate) fn far_place_of(bytes: &[u8], wanted: u8) -> Option<usize>
+    ensures value { result ≡ position (λ b. b == wanted) bytes.now }
+{
+    let mut passed = 0;
+    while LANES <= bytes.len() - passed {
+        let found = marks(u8x16::from_slice(&bytes[passed..]), wanted);
+        if found != 0 {
+            return Some(passed + found.trailing_zeros() as usize);
+        }
+        passed += LANES;
+    }
+    match place_of(&bytes[passed..], wanted) {
+        None => None,
+        Some(place) => Some(passed + place),
+    }
+}
+
+/// A bit for each of these bytes, the first one lowest: 1 where it has the value.
+#[inline(always)]
+pub(crate) fn marks(bytes: u8x16, wanted: u8) -> u64
+    ensures value { result ≡ mask_l (map (λ b. b == wanted) bytes) }
+{
+    bytes.simd_eq(u8x16::splat(wanted)).to_bitmask()
 }
 
 /// Whether a line is empty or begins with `#`.

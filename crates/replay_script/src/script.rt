@@ -5,7 +5,9 @@ ghost use Rattle.std.specs.List.{All};
 ghost use Rattle.script_spec.specs.Script.{IsHeader, IsAction, IsScript};
 ghost use Rattle.replay_script.specs.Events.{action_of, header_of};
 
+use crate::few_bytes::FewBytes;
 use omci_core::{Bytes, EntityId, Priority};
+use script_spec::{MAX_BITMAP, MAX_CREATE, MAX_SENSED, MAX_SET};
 use slot_spec::Pick;
 use std::marker::Model;
 
@@ -44,14 +46,14 @@ pub enum Event {
     Create {
         lane: Priority,
         entity: EntityId,
-        values: Bytes,
+        values: FewBytes<MAX_CREATE>,
     },
     /// The manager sets the attributes of the mask to at most 30 bytes of values.
     Set {
         lane: Priority,
         entity: EntityId,
         mask: u16,
-        values: Bytes,
+        values: FewBytes<MAX_SET>,
     },
     /// The manager deletes an instance.
     Delete {
@@ -118,12 +120,12 @@ pub enum Event {
     Sense {
         entity: EntityId,
         number: u8,
-        value: Bytes,
+        value: FewBytes<MAX_SENSED>,
     },
     /// The unit notices an entity's alarms: at most 28 bytes of a bitmap.
     Alarm {
         entity: EntityId,
-        bitmap: Bytes,
+        bitmap: FewBytes<MAX_BITMAP>,
     },
     /// The unit loses its power.
     CutUnit,

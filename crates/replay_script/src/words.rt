@@ -1,6 +1,6 @@
 //! The words of a line, read one after the other.
 
-ghost use Rattle.std.specs.Prelude.{◌≡◌, ◌==◌, ◌≤◌, [], ◌∷◌, if◌then◌else◌, IfOk, length, true};
+ghost use Rattle.std.specs.Prelude.{◌≡◌, ◌==◌, ◌<◌, ◌≤◌, [], ◌∷◌, if◌then◌else◌, IfOk, length, take, true};
 ghost use Rattle.std.specs.Prelude.{Some, None, is_some};
 ghost use Rattle.std.specs.List.{AllPass, list_all, count_by};
 ghost use Rattle.std.specs.Char.{is_ascii_digit};
@@ -18,7 +18,8 @@ ghost use Rattle.script_spec.specs.declared.TheConstants.{WORD_FAULT, HEX_FAULT}
 ghost use Rattle.std.specs.Option.{option_copied};
 ghost use Rattle.replay_script.specs.Answers.{Gives, words_left, end_named, is_whole};
 
-use crate::lines::place_of;
+use crate::few_bytes::FewBytes;
+use crate::lines::{LANES, far_place_of, marks};
 use crate::refusal::LineRefusal;
 use extended_frames::{Shown, front_shown};
 use frame_spec::LAST_NUMBER;
@@ -27,6 +28,7 @@ use script_spec::{Document, Line, MAX_DIGITS, MAX_ID, MAX_NOISE, MAX_SLOT};
 use slot_spec::Pick;
 use std::alloc::Global;
 use std::marker::Model;
+use std::simd::prelude::*;
 
 /// The words of a line that are still to be read. Words are parted by single spaces.
 #[derive(Drop)]
@@ -270,6 +272,20 @@ impl<'a> LineWords<'a> {
         bytes_of(alloc, fewest, most, word)
     }
 
+    /// Bytes in hex, kept in place, at least `fewest` and at most as many as there is room for.
+    #[tactic(auto, unfolding(script_spec::specs::Reading::field_at))]
+    pub(crate) fn few_bytes<const MOST: usize>(
+        &mut self,
+        fewest: usize,
+    ) -> Result<FewBytes<MOST>, LineRefusal>
+        requires small { MOST < 256 }
+        ensures value { Gives (λ bytes. (BytesSaid bytes, self.new)) result
+            (field_at (HexBytes fewest MOST) self.old) }
+    {
+        let word = self.word()?;
+        few_bytes_of(fewest, word)
+    }
+
     /// Bytes in hex that don't decode as a frame of either message set.
     #[tactic(auto, unfolding(script_spec::specs::Reading::field_at))]
     pub(crate) fn noise(&mut self, alloc: Global) -> Result<Bytes, LineRefusal>
@@ -331,8 +347,22 @@ fn word_count(text: &[u8]) -> usize
     spaces(text) + 1
 }
 
-/// How many spaces stand in a text.
+/// How many spaces stand in a text: [`LANES`] bytes are compared at a time.
 fn spaces(text: &[u8]) -> usize
+    ensures value { result ≡ count_by (λ b. b == 32) text.now }
+    ensures bound { result ≤ length text.now }
+{
+    let mut count = 0;
+    let mut rest = text;
+    while LANES <= rest.len() {
+        count += marks(u8x16::from_slice(rest), b' ').count_ones() as usize;
+        rest = &rest[LANES..];
+    }
+    count + few_spaces(rest)
+}
+
+/// How many spaces stand in a short text.
+fn few_spaces(text: &[u8]) -> usize
     ensures value { result ≡ count_by (λ b. b == 32) text.now }
     ensures bound { result ≤ length text.now }
 {
@@ -347,7 +377,7 @@ fn spaces(text: &[u8]) -> usize
 fn first_word(text: &[u8]) -> (&[u8], Option<&[u8]>)
     ensures value { words_of text.now ≡ result.0.now ∷ words_left (option_copied result.1) }
 {
-    match place_of(text, b' ') {
+    match far_place_of(text, b' ') {
         None => (text, None),
         Some(end) => (&text[..end], Some(&text[end + 1..])),
     }
@@ -417,6 +447,45 @@ fn bytes_of(alloc: Global, fewest: usize, most: usize, word: &[u8]) -> Result<By
         return Err(LineRefusal::HEX);
     }
     Ok(bytes)
+}
+
+/// Bytes in hex, of a number within its bounds, kept in place.
+fn few_bytes_of<const MOST: usize>(
+    fewest: usize,
+    word: &[u8],
+) -> Result<FewBytes<MOST>, LineRefusal>
+    requires small { MOST < 256 }
+    ensures value { Gives (λ bytes. bytes) result
+        (or_reason HEX_FAULT (bytes_of fewest MOST word.now)) }
+{
+    let mut row = [0; MOST];
+    let len = hex_into(fewest, word, &mut row)?;
+    Ok(FewBytes::front(row, len))
+}
+
+/// Writes the bytes that hex digits stand for, at least `fewest`, to the front of a row that has
+/// room for the most. The answer is how many they are.
+fn hex_into(fewest: usize, word: &[u8], row: &mut [u8]) -> Result<usize, LineRefusal>
+    ensures value { Gives (λ len. take len row.new) result
+        (or_reason HEX_FAULT (bytes_of fewest (length row.old) word.now)) }
+    ensures few { IfOk result (λ len. len ≤ length row.old) }
+    ensures len { length row.new ≡ length row.old }
+{
+    if word == b"-".as_slice() {
+        return if fewest == 0 {
+            Ok(0)
+        } else {
+            Err(LineRefusal::HEX)
+        };
+    }
+    let len = word.len() / 2;
+    if word.is_empty() || len < fewest || len > row.len() {
+        return Err(LineRefusal::HEX);
+    }
+    match hex::decode_to_slice(word, &mut row[..len]) {
+        Ok(()) => Ok(len),
+        Err(_) => Err(LineRefusal::HEX),
+    }
 }
 
 /// Bytes in hex, at most so many, that don't decode as a frame of either message set.

@@ -10,6 +10,7 @@ pub mod Passing
 pub mod Sending
 pub mod Telling
 pub mod Going
+pub mod Mild
 pub mod Taking
 pub mod Serving
 pub mod Turns

@@ -36,7 +36,7 @@ use Rattle.resync_laws.proofs.Invariants.{AtStage, JobOk, Held}
 use Rattle.resync_laws.proofs.Sending.{sent_names, low_later, high_later, low_again, high_again, low_ended, high_ended}
 use Rattle.resync_laws.proofs.Telling.{NoneSynced, none_more, Did, Goes, did_quiet, goes_nothing, goes_sent, goes_low, goes_high, goes_both}
 use Rattle.resync_laws.proofs.Going.{Ready, job_at, job_none, goes_on, IsSilent, silent}
-use Rattle.resync_laws.proofs.Taking.{Mild, mild_same, mild_leave, Fails, fails, fails_audit, fails_image}
+use Rattle.resync_laws.proofs.Mild.{Mild, mild_same, mild_leave, Fails, fails, fails_audit, fails_image}
 
 -- ---- refusals
 

@@ -1,5 +1,5 @@
--- When a copy agrees with the unit's database: it has the same entities, and of each the same values
--- in all attributes that may be written, the counter among them.
+-- When a copy agrees with the unit's database: it has the same entities, and of each the same
+-- values in all attributes that may be written, the counter among them.
 use Rattle.std.specs.Prelude.{◌≡◌, true, List, [], ◌∷◌}
 use Rattle.class_spec.specs.declared.TheConstants.{ONU_DATA}
 use Rattle.class_spec.specs.Classes.{Attribute}

@@ -1,5 +1,5 @@
--- A database that the unit may have: each entity, in ascending order, has a value for each attribute
--- of its class, as wide as it, and there are no more entities than a unit holds.
+-- A database that the unit may have: each entity, in ascending order, has a value for each
+-- attribute of its class, as wide as it, and there are no more entities than a unit holds.
 use Rattle.std.specs.Prelude.{◌≡◌, ◌≤◌, length, Some}
 use Rattle.omci_types.specs.declared.SlotView.{SlotView}
 use Rattle.omci_types.specs.declared.Software.{Software}

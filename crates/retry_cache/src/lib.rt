@@ -1,6 +1,6 @@
-//! The replies that a unit keeps: for each priority the one that it gave last, with the TCI of the request that
-//! it answers (ITU-T G.988, clause 11.2.2). A request that comes again is answered from here. No call takes
-//! memory.
+//! The replies that a unit keeps: for each priority the one that it gave last, with the TCI of the
+//! request that it answers (ITU-T G.988, clause 11.2.2). A request that comes again is answered
+//! from here. No call takes memory.
 #![tactic(auto)]
 
 ghost use Rattle.std.specs.Prelude.{◌≡◌, ◌≤◌, length, option_copied, IfSome, None, Some};
@@ -82,8 +82,8 @@ impl Kept {
         }
     }
 
-    /// The kept reply to the request of this TCI. None exactly where the TCI isn't the one that was kept last in
-    /// its priority.
+    /// The kept reply to the request of this TCI. None exactly where the TCI isn't the one that was
+    /// kept last in its priority.
     #[tactic(auto, unfolding(retry_spec::specs::Kept::kept_for))]
     pub fn find(&self, tci: u16) -> Option<&[u8]>
         ensures value { option_copied result ≡ kept_for tci self.now }
@@ -95,8 +95,8 @@ impl Kept {
         }
     }
 
-    /// Keeps the reply to the request of this TCI, in place of the one that was kept in its priority. It has at
-    /// most 1,980 bytes. The other priority's is left alone.
+    /// Keeps the reply to the request of this TCI, in place of the one that was kept in its
+    /// priority. It has at most 1,980 bytes. The other priority's is left alone.
     #[tactic(auto, unfolding(retry_spec::specs::Kept::kept_with))]
     pub fn keep(&mut self, tci: u16, reply: &[u8])
         requires { length reply.now ≤ MAX_PACKET_BYTES }

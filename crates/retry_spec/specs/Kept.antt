@@ -1,4 +1,5 @@
--- The kept replies: for each priority none, or the reply that was given last with its request's TCI.
+-- The kept replies: for each priority none, or the reply that was given last with its request's
+-- TCI.
 use Rattle.std.specs.Prelude.{ℕ, ◌==◌, if◌then◌else◌, List, Option, Some, None}
 use Rattle.omci_types.specs.declared.Priority.{Priority}
 use Rattle.omci_types.specs.declared.Priority.TheVariants.{Low, High}

@@ -1,8 +1,9 @@
-//! Each call of the source and of the sink failing in turn, and a sink that takes one byte at a time.
+//! Each call of the source and of the sink failing in turn, and a sink that takes one byte at a
+//! time.
 
 ghost use Rattle.std.specs.Prelude.{None};
 
-use crate::harness::{one, replay, run};
+use crate::harness::{no_link, one, replay, run};
 use omci_core::{Failed, MemSource, NoMemory, Sink, Words};
 use omci_top::{Status, omci};
 use slot_disk::MemDisk;
@@ -92,7 +93,8 @@ fn run_narrow(alloc: Global, fails: u64) -> Result<(Status, Vec<u8>), NoMemory> 
         faults: 0,
     };
     let disk = MemDisk::new(alloc, 0)?;
-    let status = omci(alloc, &words, &mut source, &mut sink, disk).status;
+    let mut link = no_link(alloc)?;
+    let status = omci(alloc, &words, &mut source, &mut sink, disk, &mut link).status;
     let Narrow { taken, .. } = sink;
     Ok((status, taken))
 }

@@ -1,6 +1,7 @@
 //! A run of the top call over memory.
 
 use omci_core::{MemSink, MemSource, NoMemory, Words};
+use omci_link::MemLink;
 use omci_top::{Status, omci};
 use slot_disk::MemDisk;
 use std::alloc::{AllocError, Global};
@@ -32,9 +33,15 @@ pub fn run(
     let mut source = MemSource::new(bytes_of(alloc, input)?, read_fails);
     let mut sink = MemSink::new(alloc, 1_000_000, write_fails)?;
     let disk = MemDisk::new(alloc, 0)?;
-    let status = omci(alloc, &line, &mut source, &mut sink, disk).status;
+    let mut link = no_link(alloc)?;
+    let status = omci(alloc, &line, &mut source, &mut sink, disk, &mut link).status;
     let written = bytes_of(alloc, sink.bytes())?;
     Ok(Outcome { status, written })
+}
+
+/// A link that gives nothing and takes nothing.
+pub fn no_link(alloc: Global) -> Result<MemLink, NoMemory> {
+    MemLink::new(alloc, Vec::new(alloc), 0, Vec::new(alloc))
 }
 
 /// A copy of some bytes.

@@ -1,4 +1,5 @@
-//! Software images: downloads, commits and activations, and the power cut in the middle of a commit.
+//! Software images: downloads, commits and activations, and the power cut in the middle of a
+//! commit.
 
 use crate::harness::replay;
 use omci_core::NoMemory;
@@ -22,7 +23,8 @@ const LOADED: &[u8] =
     b"0 unit 1 0 0 1:000000ff -\n1 sent 0 down 0001 0a get 2 0 80\n2 carried 1\n2 sent 1 up 0001 0a get-r 2 0 0080\n2 proved low\n3 sent 2 down 0002 0a start 7 1 0000000002010001\n4 carried 1\n4 sent 3 up 0002 0a start-r 7 1 -\n4 sent 4 down 0003 0a section-ar 7 1 00ffff\n4 carried 1\n4 sent 5 up 0003 0a section-r 7 1 -\n4 sent 6 down 0004 0a end 7 1 0000ffff00000002010001\n4 carried 1\n4 sealed 1 2 0000ffff\n4 sent 7 up 0004 0a end-r 7 1 -\n4 image done 1\n";
 
 const ROWS: [Row; 8] = [
-    // Two sections and then one; the first window comes again, and its kept reply to a manager that waits for another.
+    // Two sections and then one; the first window comes again, and its kept reply to a manager that
+    // waits for another.
     Row {
         script: b"omci 1 4096 1 1 ff\nprobe low\nflow 2\nimage 1 2 - ffffffff0000000000000000000000000000000000000000000000000000000000000000000000000000000000000000000000000000000000000000000001\nflow 1\nflow 1\nflow 3\ndeliver 5\nflow 100\n",
         front: PROBED,
@@ -64,7 +66,8 @@ const ROWS: [Row; 8] = [
         front: LOADED,
         lines: b"5 sent 8 down 0005 0a commit 7 1 -\n6 carried 1\n6 committed 1\n6 sent 9 up 0005 0a commit-r 7 1 -\n6 took 0005 0a commit-r 7 1 -\n8 unit 2 1 1 1:000000ff 2:0000ffff\n",
     },
-    // A unit that leaves drops a get, and starts with the activated image; the power takes it back to the committed one.
+    // A unit that leaves drops a get, and starts with the activated image; the power takes it back
+    // to the committed one.
     Row {
         script: b"omci 1 4096 1 1 ff\nprobe low\nflow 2\nimage 1 1 - ffff\nflow 100\nactivate low 1\nflow 2\nget low 2 0 8000\ndeliver 10\ntick\ntick\ntick\nflow 2\ncut unit\nstart unit\n",
         front: LOADED,

@@ -61,7 +61,8 @@ const ENDS: [Ends; 9] = [
         script: b"omci 1 4096 1 1 ff\nresync\nflow 100\ncreate low 84 1 -\nflow 2\nget low 84 1 e000\nflow 2\n",
         lines: b"6 took 0011 0a get-r 84 1 03\n",
     },
-    // A created entity comes back at the next resynchronisation: 14 pieces, one of them of 26 bytes.
+    // A created entity comes back at the next resynchronisation: 14 pieces, one of them of 26
+    // bytes.
     Ends {
         script: b"omci 1 4096 1 1 ff\nresync\nflow 100\ncreate low 84 1 -\nflow 2\nget low 84 1 e000\nflow 2\nresync\nflow 100\n",
         lines: b"8 synced 12 1\n8 copy 2 0 8000 01\n8 copy 7 0 f000 ff00000000000000000000000000010101\n8 copy 7 1 f000 0000000000000000000000000000000000\n8 copy 11 257 ffe0 0000000000000005ee00000000\n8 copy 11 258 ffe0 0000000000000005ee00000000\n8 copy 11 259 ffe0 0000000000000005ee00000000\n8 copy 11 260 ffe0 0000000000000005ee00000000\n8 copy 84 1 e000 0000000000000000000000000000000000000000000000000000\n8 copy 256 0 ff00 4f4d433100000000000000000000000000004f4d4331000000010000000000\n8 copy 257 0 ff80 0000000000000000000000000000000000000000a000000101000000000000\n8 copy 262 32769 e000 00ff0001\n8 copy 262 32770 e000 00ff0001\n8 phase in\n",

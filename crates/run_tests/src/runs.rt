@@ -36,12 +36,14 @@ const ROWS: [Row; 9] = [
         script: b"omci 1 4096 1 1 ff\nprobe low\ndeliver 0\ndeliver 0\ndeliver 1\ndeliver 2\ndeliver 9\n",
         written: b"0 unit 1 0 0 1:000000ff -\n1 sent 0 down 0001 0a get 2 0 80\n2 carried 1\n2 sent 1 up 0001 0a get-r 2 0 0080\n3 kept\n3 sent 2 up 0001 0a get-r 2 0 0080\n4 proved low\n5 dropped\n6 not enabled\n",
     },
-    // A manager that starts again probes under a number that the unit keeps a reply of: the reset isn't carried out again.
+    // A manager that starts again probes under a number that the unit keeps a reply of: the reset
+    // isn't carried out again.
     Row {
         script: b"omci 1 4096 1 1 ff\nprobe low\nflow 2\nreset low\nflow 2\ncut olt\nstart olt 2 1\nprobe low\nflow 2\nreset low\nflow 2\n",
         written: b"0 unit 1 0 0 1:000000ff -\n1 sent 0 down 0001 0a get 2 0 80\n2 carried 1\n2 sent 1 up 0001 0a get-r 2 0 0080\n2 proved low\n3 sent 2 down 0002 0a reset 2 0 -\n4 carried 1\n4 sent 3 up 0002 0a reset-r 2 0 -\n4 took 0002 0a reset-r 2 0 -\n7 sent 4 down 0002 0a get 2 0 80\n8 kept\n8 sent 5 up 0002 0a reset-r 2 0 -\n8 proved low\n9 sent 6 down 0003 0a reset 2 0 -\n10 carried 1\n10 sent 7 up 0003 0a reset-r 2 0 -\n10 took 0003 0a reset-r 2 0 -\n",
     },
-    // A high command is sent again after each second and given up at the third; a packet below the floor comes no more.
+    // A high command is sent again after each second and given up at the third; a packet below the
+    // floor comes no more.
     Row {
         script: b"omci 1 4096 1 1 ff\nprobe high\ntick\ntick\ntick\ndeliver 1\ndeliver 3\ndeliver 0\ndeliver 2\ndeliver 9\n",
         written: b"0 unit 1 0 0 1:000000ff -\n1 sent 0 down 8001 0a get 2 0 80\n2 sent 1 down 8001 0a get 2 0 80\n3 sent 2 down 8001 0a get 2 0 80\n4 gave up 8001\n5 carried 1\n5 sent 3 up 8001 0a get-r 2 0 0080\n6 dropped\n7 not enabled\n8 kept\n8 sent 4 up 8001 0a get-r 2 0 0080\n9 not enabled\n",

@@ -69,12 +69,14 @@ one_if false = 0
 -- how many of some frames have an unknown type
 abbrev pub unknown_count : List Any → ℕ
 unknown_count [] = 0
-unknown_count (frame ∷ frames) = one_if (is_unknown_type (any_message_fault frame)) + unknown_count frames
+unknown_count (frame ∷ frames) = one_if (is_unknown_type (any_message_fault frame))
+    + unknown_count frames
 
 -- ---- streams
 
 -- The bytes are those of some frames, of which none is refused, and then the rest.
-pub record Passes (refused : Any → Option ℕ) (bytes : List ℕ) (frames : List Any) (rest : List ℕ) : Type 0 where
+pub record Passes (refused : Any → Option ℕ) (bytes : List ℕ) (frames : List Any) (rest : List ℕ)
+    : Type 0 where
   pub spelled : bytes ≡ frame_bytes frames ++ rest
   pub valid : All IsAny frames
   pub passed : All (λ frame. refused frame ≡ None) frames
@@ -98,4 +100,5 @@ reason_at refused ended rest = reason_by refused ended rest (any_front rest)
 
 -- the line of a stream in which no frame is refused: its frames, and those of unknown type
 unfoldable pub count_text : ℕ → ℕ → List ℕ
-count_text frames unknown = codes "frames " ++ decimal frames ++ codes " unknown " ++ decimal unknown ++ codes "\n"
+count_text frames unknown = codes "frames " ++ decimal frames ++ codes " unknown "
+    ++ decimal unknown ++ codes "\n"

@@ -1,6 +1,6 @@
-//! What the commands `show` and `check` say of a stream of frames of both message sets: the lines of
-//! its frames, the frames that are refused, and the reason where the stream has a fault. The crate
-//! has definitions and constants alone.
+//! What the commands `show` and `check` say of a stream of frames of both message sets: the lines
+//! of its frames, the frames that are refused, and the reason where the stream has a fault. The
+//! crate has definitions and constants alone.
 #![tactic(auto)]
 
 /// Why a stream is refused: byte 4 of a frame is the device of no message set.

@@ -25,8 +25,10 @@ pub record IsDisk (m : MemState) : Type 0 where
   pub settled_long : length m.settled ≡ length m.bytes
   pub newest_long : length m.newest ≡ length m.bytes
   pub dirty_long : length m.dirty ≡ length m.bytes
-  pub settled_same : (place : ℕ) → get_or m.dirty place false ≡ false → get_or m.settled place 0 ≡ get_or m.bytes place 0
-  pub newest_same : (place : ℕ) → get_or m.dirty place false ≡ false → get_or m.newest place 0 ≡ get_or m.bytes place 0
+  pub settled_same : (place : ℕ) → get_or m.dirty place false ≡ false → get_or m.settled place 0
+      ≡ get_or m.bytes place 0
+  pub newest_same : (place : ℕ) → get_or m.dirty place false ≡ false → get_or m.newest place 0
+      ≡ get_or m.bytes place 0
 
 -- a byte in each marked place
 abbrev pub with_byte : ℕ → List Bool → List ℕ → List ℕ
@@ -46,7 +48,8 @@ cut_of m pick = cut_by m.settled m.newest m.dirty pick
 -- any bytes where one was written since the last sync
 pub record Loose (m : MemState) (image : List ℕ) : Type 0 where
   pub long : length image ≡ length m.bytes
-  pub same : (place : ℕ) → get_or m.dirty place false ≡ false → get_or image place 0 ≡ get_or m.bytes place 0
+  pub same : (place : ℕ) → get_or m.dirty place false ≡ false → get_or image place 0
+      ≡ get_or m.bytes place 0
 
 -- so may a crash leave; what a cut leaves is among them
 abbrev pub MayLeave : MemState → List ℕ → Type 0
@@ -68,38 +71,62 @@ abbrev pub with_marks : ℕ → ℕ → List Bool → List Bool
 with_marks at count marks = take at marks ++ (replicate count true ++ drop (at + count) marks)
 
 abbrev pub after_begin : ℕ → List ℕ → MemState → MemState
-after_begin at from m = record m { newest = with_bytes at from m.newest; dirty = with_marks at (length from) m.dirty }
+after_begin at from m = record m {
+  newest = with_bytes at from m.newest;
+  dirty = with_marks at (length from) m.dirty;
+}
 
 abbrev pub after_finish : ℕ → List ℕ → MemState → MemState
 after_finish at from m = record m { bytes = with_bytes at from m.bytes }
 
 abbrev pub after_sync : MemState → MemState
-after_sync m = record m { settled = m.bytes; newest = m.bytes; dirty = replicate (length m.bytes) false }
+after_sync m = record m {
+  settled = m.bytes;
+  newest = m.bytes;
+  dirty = replicate (length m.bytes) false;
+}
 
 -- a disk of zeros with no trap and no fault
 abbrev pub zero_disk : ℕ → MemState
-zero_disk size = record { bytes = replicate size 0; settled = replicate size 0; newest = replicate size 0; dirty = replicate size false; trap = Clear; faults = 0 }
+zero_disk size = record {
+  bytes = replicate size 0;
+  settled = replicate size 0;
+  newest = replicate size 0;
+  dirty = replicate size false;
+  trap = Clear;
+  faults = 0;
+}
 
 -- these bytes are what a read gives, with nothing pending
 abbrev pub holding : List ℕ → MemState → MemState
-holding bytes m = record m { bytes = bytes; settled = bytes; newest = bytes; dirty = replicate (length m.bytes) false }
+holding bytes m = record m {
+  bytes = bytes;
+  settled = bytes;
+  newest = bytes;
+  dirty = replicate (length m.bytes) false;
+}
 
 -- the power is back: the bytes are those that a cut with the fuse's pick leaves
 abbrev pub after_restore : MemState → MemState
-after_restore m = record (holding (cut_of m (pick_of m.trap)) m) { trap = trap_after_restore m.trap }
+after_restore m = record (holding (cut_of m (pick_of m.trap)) m) {
+  trap = trap_after_restore m.trap;
+}
 
 -- the laws of the traits
-pub rig_reads_of : (m : MemState) (r : Rigged) → Some (rig_of m) ≡ Some r → Some m.bytes ≡ Some r.bytes
+pub rig_reads_of : (m : MemState) (r : Rigged) → Some (rig_of m) ≡ Some r → Some m.bytes
+    ≡ Some r.bytes
 rig_reads_of m r is = ap (λ (o : Option Rigged). option_map (λ q. q.bytes) o) is
 
-pub cut_counts_of : (m : MemState) (r : Rigged) (pick : Pick) → Some (rig_of m) ≡ Some r → MayLeave m (r.cut pick)
+pub cut_counts_of : (m : MemState) (r : Rigged) (pick : Pick) → Some (rig_of m) ≡ Some r
+    → MayLeave m (r.cut pick)
 cut_counts_of m r pick is = inr (pick, ap (λ (q : Rigged). q.cut pick) (sym (same is)))
   where
     same : Some (rig_of m) ≡ Some r → rig_of m ≡ r
     same e = cc
 
 pub leaves_seen_of : (m : MemState) (bytes : List ℕ) → Some m.bytes ≡ Some bytes → MayLeave m bytes
-leaves_seen_of m bytes is = inl (subst (Loose m) (same is) (record { long = refl; same = λ place clean. refl }))
+leaves_seen_of m bytes is =
+    inl (subst (Loose m) (same is) (record { long = refl; same = λ place clean. refl }))
   where
     same : Some m.bytes ≡ Some bytes → m.bytes ≡ bytes
     same e = cc

@@ -2,7 +2,8 @@
 use Rattle.std.specs.Prelude.{◌≡◌, ℕ, List, Option, Some, None}
 use Rattle.slot_spec.specs.Rig.{Rigged}
 
-pub untold_reads : (r : Rigged) → ◌≡◌ {A = Option Rigged} None (Some r) → ◌≡◌ {A = Option (List ℕ)} None (Some r.bytes)
+pub untold_reads : (r : Rigged) → ◌≡◌ {A = Option Rigged} None (Some r)
+    → ◌≡◌ {A = Option (List ℕ)} None (Some r.bytes)
 untold_reads r is = cc
 
 pub untold_cut : (r : Rigged) → ◌≡◌ {A = Option Rigged} None (Some r) → ⊥

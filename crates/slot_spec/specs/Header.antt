@@ -24,25 +24,38 @@ is_valid room gate given = (gate == open_gate) && (nat_le 1 given && nat_le give
 
 -- what the entry at a place says
 unfoldable pub entry_view : ℕ → List ℕ → SlotView
-entry_view place bytes = record { length = number_at place bytes; crc = number_at (place + 4) bytes; version = field (place + 8) VERSION_BYTES bytes }
+entry_view place bytes = record {
+  length = number_at place bytes;
+  crc = number_at (place + 4) bytes;
+  version = field (place + 8) VERSION_BYTES bytes;
+}
 
 -- what the first bytes say of a slot
 unfoldable pub slot_header_in : ℕ → ℕ → List ℕ → SlotHeader
 slot_header_in room slot bytes =
     record {
       opened = get_or bytes (gate_place slot) 0 == open_gate;
-      view = if is_valid room (get_or bytes (gate_place slot) 0) (number_at (entry_place slot) bytes) then Some (entry_view (entry_place slot) bytes) else None;
+      view = if is_valid room (get_or bytes (gate_place slot) 0)
+          (number_at (entry_place slot) bytes) then Some (entry_view (entry_place slot) bytes)
+          else None;
     }
 
 -- what they say of both
 unfoldable pub disk_header_in : List ℕ → DiskHeader
 disk_header_in bytes =
     let room = number_at ROOM_PLACE bytes in
-    record { room = room; committed = get_or bytes commit_place 0 % 2; first = slot_header_in room 0 bytes; second = slot_header_in room 1 bytes }
+    record {
+      room = room;
+      committed = get_or bytes commit_place 0 % 2;
+      first = slot_header_in room 0 bytes;
+      second = slot_header_in room 1 bytes;
+    }
 
 -- whether a disk of this length is one of slots: the magic, a room in range, and the length for it
 unfoldable pub has_unit : ℕ → List ℕ → Bool
-has_unit size bytes = bytes_eq (field 0 8 bytes) magic && (nat_le 1 (number_at ROOM_PLACE bytes) && (nat_le (number_at ROOM_PLACE bytes) MAX_ROOM && nat_le (HEADER_BYTES + 2 * number_at ROOM_PLACE bytes) size))
+has_unit size bytes = bytes_eq (field 0 8 bytes) magic
+    && (nat_le 1 (number_at ROOM_PLACE bytes) && (nat_le (number_at ROOM_PLACE bytes) MAX_ROOM
+    && nat_le (HEADER_BYTES + 2 * number_at ROOM_PLACE bytes) size))
 
 -- a slot whose gate was closed
 abbrev pub shut_header : SlotHeader

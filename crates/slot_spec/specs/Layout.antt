@@ -60,11 +60,13 @@ pub record HoldsImage (room : ℕ) (gate given content image : List ℕ) : Type 
 -- a slot has an image exactly where its gate is open and the length of its entry is in range
 abbrev pub SlotStands : ℕ → List ℕ → List ℕ → List ℕ → Option (List ℕ) → Type 0
 SlotStands room gate given content (Some image) = HoldsImage room gate given content image
-SlotStands room gate given content None = gate ≡ open_gate ∷ [] → IsLength room (given_length given) → ⊥
+SlotStands room gate given content None = gate ≡ open_gate ∷ [] → IsLength room (given_length given)
+    → ⊥
 
 abbrev pub SlotIn : ℕ → List ℕ → ℕ → Option (List ℕ) → Type 0
 SlotIn room bytes slot image =
-    SlotStands room (field (gate_place slot) 1 bytes) (field (entry_place slot) ENTRY_BYTES bytes) (field (image_place room slot) room bytes) image
+    SlotStands room (field (gate_place slot) 1 bytes) (field (entry_place slot) ENTRY_BYTES bytes)
+    (field (image_place room slot) room bytes) image
 
 -- the bytes stand for the slots, with so much room in each slot
 pub record StandsAt (room : ℕ) (bytes : List ℕ) (s : SlotPair) : Type 0 where

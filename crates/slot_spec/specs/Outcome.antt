@@ -27,16 +27,20 @@ pub data Reach : Type 0 where
 -- the write is pending from its own call to the sync after it
 abbrev pub reach : ℕ → Trap → Reach
 reach w Clear = After
-reach w (Fuse call pick) = if nat_lt call w then Before else (if nat_le call (w + 1) then Pending else After)
-reach w (Fail call) = if nat_le call w then Before else (if nat_le call (w + 1) then Pending else After)
+reach w (Fuse call pick) = if nat_lt call w then Before
+    else (if nat_le call (w + 1) then Pending else After)
+reach w (Fail call) = if nat_le call w then Before
+    else (if nat_le call (w + 1) then Pending else After)
 
 -- what a cut leaves while the deciding write is pending, by what the cut gives to its byte
 abbrev pub slots_pending : Change → SlotPair → Pick → SlotPair
 slots_pending change s Old = s
 slots_pending change s New = after_change change s
 slots_pending Keep s (Byte b) = s
-slots_pending (change.Clear target) s (Byte b) = if b == open_gate then s else after_change (change.Clear target) s
-slots_pending (change.Seal target image) s (Byte b) = if b == open_gate then after_change (change.Seal target image) s else s
+slots_pending (change.Clear target) s (Byte b) = if b == open_gate then s
+    else after_change (change.Clear target) s
+slots_pending (change.Seal target image) s (Byte b) =
+    if b == open_gate then after_change (change.Seal target image) s else s
 slots_pending (change.Commit slot) s (Byte b) = with_committed (b % 2) s
 
 -- what a cut leaves of a request that came so far
@@ -58,10 +62,12 @@ outcome change s trap pick = slots_left (reach (deciding_call change) trap) chan
 -- After a request that came so far: what a cut with each pick would leave has P with the slots that
 -- it leaves. So has what the disk reads as, unless a fuse was reached; then nothing is said of what
 -- it reads as.
-pub record LeftAs (P : List ℕ → SlotPair → Type 0) (far : Reach) (change : Change) (s : SlotPair) (after : Rigged) : Type 0 where
+pub record LeftAs (P : List ℕ → SlotPair → Type 0) (far : Reach) (change : Change) (s : SlotPair)
+    (after : Rigged) : Type 0 where
   pub cuts : (pick : Pick) → P (after.cut pick) (slots_left far change s pick)
   pub reads : fuse_is_spent after.trap ≡ false → P after.bytes (slots_read far change s)
 
 -- the same of a disk that tells it, after a request over this trap
 abbrev pub Leaves : (List ℕ → SlotPair → Type 0) → Change → SlotPair → Trap → Option Rigged → Type 0
-Leaves P change s trap now = (after : Rigged) × (now ≡ Some after) × LeftAs P (reach (deciding_call change) trap) change s after
+Leaves P change s trap now = (after : Rigged) × (now ≡ Some after)
+    × LeftAs P (reach (deciding_call change) trap) change s after

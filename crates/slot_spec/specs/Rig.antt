@@ -82,23 +82,31 @@ after_write at new done counts r =
 abbrev pub after_call : Call → Rigged → Rigged
 after_call (Read at count) r = record { bytes = r.bytes; cut = r.cut; trap = trap_after r.trap }
 after_call (Write at new) r =
-    after_write at new (not (trap_is_met r.trap) && in_disk at (length new) r) ((not (trap_is_met r.trap) || fuse_is_met r.trap) && in_disk at (length new) r) r
-after_call Sync r = record { bytes = r.bytes; cut = if trap_is_met r.trap then r.cut else (λ pick. r.bytes); trap = trap_after r.trap }
+    after_write at new (not (trap_is_met r.trap) && in_disk at (length new) r)
+    ((not (trap_is_met r.trap) || fuse_is_met r.trap) && in_disk at (length new) r) r
+after_call Sync r = record {
+  bytes = r.bytes;
+  cut = if trap_is_met r.trap then r.cut else (λ pick. r.bytes);
+  trap = trap_after r.trap;
+}
 
 -- the disk after these calls, of which the first that fails is the last one made
 unfoldable pub after_calls : List Call → Rigged → Rigged
 after_calls [] r = r
-after_calls (call ∷ calls) r = if call_fails call r then after_call call r else after_calls calls (after_call call r)
+after_calls (call ∷ calls) r = if call_fails call r then after_call call r
+    else after_calls calls (after_call call r)
 
 -- whether one of these calls fails
 unfoldable pub calls_fail : List Call → Rigged → Bool
 calls_fail [] r = false
-calls_fail (call ∷ calls) r = if call_fails call r then true else calls_fail calls (after_call call r)
+calls_fail (call ∷ calls) r = if call_fails call r then true
+    else calls_fail calls (after_call call r)
 
 -- where the disk tells it: these calls were made up to the first that failed and no other, and the
 -- answer is a fault exactly where one failed
 abbrev pub Makes : List Call → Option Rigged → Option Rigged → Bool → Type 0
-Makes calls old new failed = (r : Rigged) → old ≡ Some r → (new ≡ Some (after_calls calls r)) × (failed ≡ calls_fail calls r)
+Makes calls old new failed = (r : Rigged) → old ≡ Some r → (new ≡ Some (after_calls calls r))
+    × (failed ≡ calls_fail calls r)
 
 -- what a disk reads as and what a cut with each pick would leave have P with the slots
 pub record RigHolds {S : Type 0} (P : List ℕ → S → Type 0) (s : S) (r : Rigged) : Type 0 where
@@ -120,4 +128,8 @@ trap_after_restore Clear = Clear
 -- the power comes back: what a cut with the fuse's pick leaves is what a read gives, and a cut with
 -- each pick leaves it so
 abbrev pub power_restored : Rigged → Rigged
-power_restored r = record { bytes = r.cut (pick_of r.trap); cut = λ pick. r.cut (pick_of r.trap); trap = trap_after_restore r.trap }
+power_restored r = record {
+  bytes = r.cut (pick_of r.trap);
+  cut = λ pick. r.cut (pick_of r.trap);
+  trap = trap_after_restore r.trap;
+}

@@ -95,8 +95,8 @@ fn cut_in(alloc: Global, request: Request, call: u64, pick: Pick) -> Result<MemD
     }
 }
 
-/// Whether the disk's committed image is, byte for byte, the first one in slot 0 or, after a commit,
-/// the second one in slot 1.
+/// Whether the disk's committed image is, byte for byte, the first one in slot 0 or, after a
+/// commit, the second one in slot 1.
 fn boots(slots: Slots<MemDisk>, request: Request) -> bool {
     let committed = slots.committed();
     let Some(view) = slots.view(committed) else {

@@ -10,7 +10,8 @@ pub const LENGTH: u64 = 4128;
 
 pub const ROOM: u32 = 16;
 
-/// The image that is committed in slot 0, and the one that goes into slot 1, with their check values.
+/// The image that is committed in slot 0, and the one that goes into slot 1, with their check
+/// values.
 pub const FIRST: [u8; 1] = [0xff];
 
 pub const FIRST_CHECK: u32 = 0x0000_00ff;

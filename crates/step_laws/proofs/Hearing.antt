@@ -1,7 +1,7 @@
 -- Packets that come to the manager.
 use Rattle.std.proofs.Common.{◌≡◌, ◌≢◌, ℕ, ◌+◌, ◌≤◌, Bool, true, false, List, [], ◌∷◌, ◌++◌, length}
 use Rattle.std.proofs.Common.{Option, Some, None, ◌⊎◌, inl, inr, ⊎_elim, refl, sym, ap, subst, ◌∙◌}
-use Rattle.std.proofs.Common.{arith, nat_le, nat_lt, min, cond, ◌==◌, is_some, Result, Ok, Err}
+use Rattle.std.proofs.Common.{arith, cond, ◌==◌, Result, Ok, Err}
 use Rattle.std.specs.Option.{option_map}
 use Rattle.std.proofs.lemmas.Option.{same_Some}
 use Rattle.std.proofs.lemmas.Bool.{false≢true}
@@ -19,38 +19,22 @@ use Rattle.message_spec.specs.declared.ContentsFault.{ContentsFault}
 use Rattle.message_spec.specs.declared.Notice.{Notice}
 use Rattle.message_spec.specs.declared.Notice.TheVariants as notices
 use Rattle.message_spec.specs.Reading.{message_of}
-use Rattle.alarm_spec.specs.declared.BadRow.{BadRow}
-use Rattle.alarm_spec.specs.declared.BadRow.TheVariants as bad
 use Rattle.alarm_spec.specs.declared.TakenAlarm.{TakenAlarm}
 use Rattle.alarm_spec.specs.declared.TakenAlarm.TheVariants as taken
-use Rattle.alarm_spec.specs.Table.{Table, take_answer, after_take, begun, gathered, row_fault}
-use Rattle.alarm_spec.specs.Table.{after_row, finished}
+use Rattle.alarm_spec.specs.Table.{Table, take_answer, after_take, finished}
 use Rattle.omci_types.specs.declared.EntityId.{EntityId}
-use Rattle.upload_spec.specs.declared.PieceFault.{PieceFault}
-use Rattle.upload_spec.specs.declared.PieceFault.TheVariants as fault
 use Rattle.upload_spec.specs.Pieces.{Copy}
-use Rattle.upload_spec.specs.Copies.{with_piece, piece_fault, copied_counter, copy_counter}
-use Rattle.upload_spec.specs.Copies.{copy_grown}
+use Rattle.upload_spec.specs.Copies.{copy_counter, copy_grown}
 use Rattle.link_spec.specs.Link.{Sent, Link, lane_of}
 use Rattle.lane_spec.specs.declared.Purpose.{Purpose}
 use Rattle.lane_spec.specs.declared.Purpose.TheVariants as purpose
 use Rattle.lane_spec.specs.Command.{Command, is_probe, is_changing, answers}
-use Rattle.message_spec.specs.declared.Request.{Request}
-use Rattle.message_spec.specs.declared.Request.TheVariants as request
-use Rattle.omci_types.specs.declared.TheConstants.Code.{BUSY}
-use Rattle.window_spec.specs.Outgoing.{Outgoing, new_outgoing, is_last, after_window}
+use Rattle.window_spec.specs.Outgoing.{Outgoing}
 use Rattle.lane_spec.specs.Lane.{Lane, Waiting, end_command}
 use Rattle.manager_spec.specs.declared.Phase.{Phase}
 use Rattle.manager_spec.specs.declared.Phase.TheVariants as phase
-use Rattle.manager_spec.specs.declared.TheConstants.{MOST_RESENT, MOST_BUSY}
-use Rattle.manager_spec.specs.declared.ImageReason.{ImageReason}
-use Rattle.manager_spec.specs.declared.ImageReason.TheVariants as image_reason
-use Rattle.manager_spec.specs.Copying.{grown_in_step, counted_in_step}
-use Rattle.manager_spec.specs.Upgrade.{image_failed, started_if, image_started, window_taken}
-use Rattle.manager_spec.specs.Upgrade.{window_refused, window_by, window_answered, busy_if, end_by}
-use Rattle.manager_spec.specs.Upgrade.{end_answered}
-use Rattle.manager_spec.specs.declared.ResyncReason.{ResyncReason}
-use Rattle.manager_spec.specs.declared.ResyncReason.TheVariants as reason
+use Rattle.manager_spec.specs.Copying.{grown_in_step}
+use Rattle.manager_spec.specs.Upgrade.{image_started, end_answered}
 use Rattle.manager_spec.specs.declared.AuditReason.{AuditReason}
 use Rattle.manager_spec.specs.declared.AuditReason.TheVariants as audit
 use Rattle.manager_spec.specs.declared.Report.{Report}
@@ -59,11 +43,9 @@ use Rattle.manager_spec.specs.Manager.{Stage, Probing, Asking, Gathering, Asking
 use Rattle.manager_spec.specs.Manager.{GatheringRows, Manager, Outcome, lane_in, with_lane}
 use Rattle.manager_spec.specs.Manager.{with_report, sends_nothing, and_then, Order}
 use Rattle.manager_spec.specs.Manager.{StartingImage, SendingImage, EndingImage, DelayingEnd}
-use Rattle.manager_spec.specs.Resync.{with_job, resync_failed, resync_done, done_if_counted}
-use Rattle.manager_spec.specs.Resync.{gather_unless_all, gather_on, piece_by}
-use Rattle.manager_spec.specs.Audit.{with_table, audit_failed, audit_done, rows_unless_all, rows_on}
-use Rattle.manager_spec.specs.Audit.{row_by, notice_taken, audit_lost, alarm_as, alarm_came}
-use Rattle.manager_spec.specs.Audit.{notice_came}
+use Rattle.manager_spec.specs.Resync.{with_job, resync_done}
+use Rattle.manager_spec.specs.Audit.{with_table, audit_done, notice_taken, audit_lost, alarm_as}
+use Rattle.manager_spec.specs.Audit.{alarm_came, notice_came}
 use Rattle.manager_spec.specs.Jobs.{job_goes_on}
 use Rattle.manager_spec.specs.Steps.{response_of, with_taken, probe_taken, followed_by, checked_by}
 use Rattle.manager_spec.specs.Steps.{freed, upload_by, piece_by_reply, alarms_by, row_by_reply}
@@ -79,24 +61,30 @@ use Rattle.resync_laws.proofs.Invariants.{is_job, Good}
 use Rattle.resync_laws.proofs.Telling.{is_synced, NoneSynced, none_more, did_told, synced_told}
 use Rattle.resync_laws.proofs.Telling.{tell_append, deeds_of, all_deeds}
 use Rattle.resync_laws.proofs.Telling.{audited_told}
-use Rattle.resync_laws.proofs.Taking.{fails, fails_audit, mild_followed, mild_checked, took_told}
+use Rattle.resync_laws.proofs.Taking.{mild_followed, mild_checked, took_told}
 use Rattle.step_laws.proofs.Coming.{Coming}
 use Rattle.step_laws.proofs.Reading.{packets_change, form, AnswersForm, IsOther, answers_form}
 use Rattle.step_laws.proofs.Copying.{followed_copy}
 use Rattle.step_laws.proofs.Parts.{out_in, last_in, NoPacket, IsPut, IsCalm, AtStep, Steady}
 use Rattle.step_laws.proofs.Parts.{has_asked, is_resync, is_probed, is_barred, probed_resync}
-use Rattle.step_laws.proofs.Parts.{resync_bars, is_image, AtCommand, IsFollowed, IsImages, counted_of}
+use Rattle.step_laws.proofs.Parts.{resync_bars, is_image, AtCommand, IsFollowed, IsImages}
+use Rattle.step_laws.proofs.Parts.{counted_of}
 use Rattle.step_laws.proofs.Milder.{Fewer, IsKept, fewer_steady, kept_phase, milder_steady}
 use Rattle.step_laws.proofs.Milder.{rejob_steady}
 use Rattle.step_laws.proofs.Sending.{not_both}
-use Rattle.step_laws.proofs.Turning.{Like, like_same, like_then, like_report, like_failed}
-use Rattle.step_laws.proofs.Turning.{like_unaudited, like_checked, like_milder, over_milder}
-use Rattle.step_laws.proofs.Turning.{IsTaken, Takes, takes, LaneMild, lane_still, lane_ended, fewer_of}
+use Rattle.step_laws.proofs.Turning.{Like, like_same, like_report, like_checked, like_milder}
+use Rattle.step_laws.proofs.Turning.{over_milder, IsTaken, Takes, takes, LaneMild, lane_still}
+use Rattle.step_laws.proofs.Turning.{lane_ended, fewer_of}
 use Rattle.step_laws.proofs.Taking.{IsOwn, noticed_steady, took_steady, audited_steady}
 use Rattle.step_laws.proofs.Taking.{submission_steady, probed_steady, gathering_step, synced_steady}
 use Rattle.step_laws.proofs.Taking.{change_steady}
-use Rattle.step_laws.proofs.Going.{StepsTo, steps_after, steps_quiet, then_goes, image_step, image_quiet}
+use Rattle.step_laws.proofs.Going.{StepsTo, steps_after, steps_quiet, then_goes, image_step}
+use Rattle.step_laws.proofs.Going.{image_quiet}
 use Rattle.step_laws.proofs.Turns.{out_is}
+use Rattle.step_laws.proofs.Becoming.{Quietly, Turns, quiet_report, turns_freed, turns_upload}
+use Rattle.step_laws.proofs.Becoming.{turns_reply, quiet_then, quiet_table, quiet_audit, AuditTurns}
+use Rattle.step_laws.proofs.Becoming.{audit_begins, audit_reply, Downs, downs_freed, start_downs}
+use Rattle.step_laws.proofs.Becoming.{end_downs, window_reply_downs, other_form}
 
 pub last_is : (lane : Priority) (t : Told) → drawn_in lane t ≡ last_in lane t
 last_is Low t = refl
@@ -117,319 +105,6 @@ abbrev pub IsHeard : Link → ℕ → Manager → Told → List ℕ → Type 0
 IsHeard link lives m t bytes =
     (l : Priority) (w : Waiting) → out_in l m ≡ Some w → packet_tci bytes ≡ w.tci
     → priority_of (packet_tci bytes) ≡ l → Heard l w link lives t bytes
-
--- ---- what becomes of a job
-
--- a manager that reports no resynchronisation that ended well
-record Quietly (m a : Manager) : Type 0 where
-  like : Like m a
-  told : NoneSynced m.reports → NoneSynced a.reports
-
--- it gathers, where it has asked
-record Gathers (m a : Manager) : Type 0 where
-  expected : ℕ
-  next : ℕ
-  copy : Copy
-  is : a ≡ with_job (Some (Gathering expected next copy)) m
-
-record Syncs (m a : Manager) : Type 0 where
-  copy : Copy
-  is : a ≡ resync_done copy m
-
-abbrev Turns : Manager → Manager → Type 0
-Turns m a = Quietly m a ⊎ (Gathers m a ⊎ Syncs m a)
-
-quiet_report : (r : Report) (m : Manager) → NoneSynced (r ∷ []) → Quietly m (with_report r m)
-quiet_report r m n = record { like = like_report r m; told = λ k. none_more m.reports r k n.0 }
-
-quiet_failed : (why : ResyncReason) (m : Manager) → Quietly m (resync_failed why m)
-quiet_failed why m = record { like = like_failed why m; told = (fails why m).reports }
-
-turns_if : (b : Bool) (copy : Copy) (m : Manager) → Turns m (done_if_counted b copy m)
-turns_if true copy m = inr (inr (record { copy = copy; is = refl }))
-turns_if false copy m = inl (quiet_failed reason.Missing m)
-
-turns_unless : (b : Bool) (expected next : ℕ) (copy : Copy) (m : Manager)
-    → Turns m (gather_unless_all b expected next copy m)
-turns_unless true expected next copy m = turns_if (is_some (copied_counter copy)) copy m
-turns_unless false expected next copy m =
-    inr (inl (record { expected = expected; next = next; copy = copy; is = refl }))
-
-turns_on : (expected next : ℕ) (copy : Copy) (m : Manager)
-    → Turns m (gather_on expected next copy m)
-unfolding gather_on
-turns_on expected next copy m = turns_unless (nat_le expected next) expected next copy m
-
-turns_piece : (o : Option PieceFault) (expected next : ℕ) (piece : List ℕ) (copy : Copy)
-    (m : Manager) → Turns m (piece_by o expected next piece copy m)
-turns_piece None expected next piece copy m = turns_on expected (next + 1) (with_piece piece copy) m
-turns_piece (Some fault.Empty) expected next piece copy m = inl (quiet_failed reason.Empty m)
-turns_piece (Some (fault.ClassUnknown class)) expected next piece copy m =
-    turns_on expected (next + 1) copy m
-turns_piece (Some (fault.Truncated one)) expected next piece copy m =
-    inl (quiet_failed (reason.Truncated one) m)
-turns_piece (Some (fault.Repeated one attribute)) expected next piece copy m =
-    inl (quiet_failed (reason.Repeated one attribute) m)
-
-turns_freed : (f : Frame) (m : Manager) → Quietly m (freed f m)
-turns_freed f m = quiet_report (report.Freed f.tci) m (refl, tt)
-
-turns_upload : (o : Option Response) (f : Frame) (m : Manager) → Turns m (upload_by o f m)
-turns_upload (Some (response.Upload count)) f m = turns_on count 0 [] m
-turns_upload (Some _) f m = inl (turns_freed f m)
-turns_upload None f m = inl (turns_freed f m)
-
-turns_reply : (o : Option Response) (expected next : ℕ) (copy : Copy) (f : Frame) (m : Manager)
-    → Turns m (piece_by_reply o expected next copy f m)
-turns_reply (Some (response.UploadNext piece)) expected next copy f m =
-    turns_piece (piece_fault piece copy) expected next piece copy m
-turns_reply (Some _) expected next copy f m = inl (turns_freed f m)
-turns_reply None expected next copy f m = inl (turns_freed f m)
-
--- ---- what becomes of an audit
-
--- no download runs
-abbrev IsIdleJob : Manager → Type 0
-IsIdleJob m = (c : Command) → AtCommand m.job c → ⊥
-
-quiet_unaudited : (why : AuditReason) (m : Manager) → IsIdleJob m → Quietly m (audit_failed why m)
-quiet_unaudited why m idle =
-    record { like = like_unaudited why m idle; told = (fails_audit why m).reports }
-
-quiet_same : (m : Manager) → Quietly m m
-quiet_same m = record { like = like_same m; told = λ n. n }
-
-quiet_then : (m a b : Manager) → Quietly m a → Quietly a b → Quietly m b
-quiet_then m a b h k = record {
-  like = like_then m a b h.like k.like;
-  told =
-      λ n. k.told (h.told n);
-}
-
-quiet_table : (table : Table) (m : Manager) → Quietly m (with_table table m)
-quiet_table table m = record {
-  like = record {
-    low = refl;
-    high = refl;
-    job = λ s e. e;
-    was = λ e. e;
-    copy = λ e. refl;
-    command = λ e c h. h;
-  };
-  told = λ n. n;
-}
-
-quiet_audit : (job : Option Stage) (why : AuditReason) (m : Manager) → m.job ≡ job
-    → Quietly m (audit_lost job why m)
-quiet_audit None why m e = quiet_same m
-quiet_audit (Some (Probing high low)) why m e = quiet_same m
-quiet_audit (Some Asking) why m e = quiet_same m
-quiet_audit (Some (Gathering expected next copy)) why m e = quiet_same m
-quiet_audit (Some AskingAlarms) why m e =
-    quiet_unaudited why m (λ c x. subst (λ j. AtCommand j c) e x)
-quiet_audit (Some (GatheringRows expected next)) why m e =
-    quiet_unaudited why m (λ c x. subst (λ j. AtCommand j c) e x)
-quiet_audit (Some (StartingImage order asked image)) why m e = quiet_same m
-quiet_audit (Some (SendingImage order outgoing resent)) why m e = quiet_same m
-quiet_audit (Some (EndingImage order image busy)) why m e = quiet_same m
-quiet_audit (Some (DelayingEnd order image busy)) why m e = quiet_same m
-
--- it gathers rows
-record GathersRows (m a : Manager) : Type 0 where
-  expected : ℕ
-  next : ℕ
-  table : Table
-  is : a ≡ with_job (Some (GatheringRows expected next)) (with_table table m)
-
-record Audits (m a : Manager) : Type 0 where
-  table : Table
-  is : a ≡ audit_done (with_table table m)
-
-abbrev AuditTurns : Manager → Manager → Type 0
-AuditTurns m a = Quietly m a ⊎ (GathersRows m a ⊎ Audits m a)
-
-audit_unless : (all : Bool) (expected next : ℕ) (table : Table) (m : Manager)
-    → AuditTurns m (rows_unless_all all expected next (with_table table m))
-audit_unless true expected next table m = inr (inr (record { table = table; is = refl }))
-audit_unless false expected next table m =
-    inr (inl (record { expected = expected; next = next; table = table; is = refl }))
-
-audit_on : (expected next : ℕ) (table : Table) (m : Manager)
-    → AuditTurns m (rows_on expected next (with_table table m))
-unfolding rows_on
-audit_on expected next table m = audit_unless (nat_le expected next) expected next table m
-
-audit_row : (o : Option BadRow) (expected next : ℕ) (row : List ℕ) (m : Manager) → IsIdleJob m
-    → AuditTurns m (row_by o expected next row m)
-audit_row None expected next row m i = audit_on expected (next + 1) (after_row row m.table) m
-audit_row (Some bad.Empty) expected next row m i = inl (quiet_unaudited audit.Empty m i)
-audit_row (Some (bad.Repeated one)) expected next row m i =
-    inl (quiet_unaudited (audit.Repeated one) m i)
-
-audit_begins : (o : Option Response) (f : Frame) (m : Manager) → AuditTurns m (alarms_by o f m)
-audit_begins (Some (response.Alarms count)) f m = audit_on count 0 (begun m.table) m
-audit_begins (Some _) f m = inl (turns_freed f m)
-audit_begins None f m = inl (turns_freed f m)
-
-audit_reply : (o : Option Response) (expected next : ℕ) (f : Frame) (m : Manager) → IsIdleJob m
-    → AuditTurns m (row_by_reply o expected next f m)
-audit_reply (Some (response.AlarmsNext row)) expected next f m i =
-    audit_row (row_fault row (gathered m.table)) expected next row m i
-audit_reply (Some _) expected next f m i = inl (turns_freed f m)
-audit_reply None expected next f m i = inl (turns_freed f m)
-
--- ---- what becomes of a download
-
--- its job goes on or ends, and the copy grows or stays
-record Downs (m a : Manager) (grown : Bool) : Type 0 where
-  low : a.low ≡ m.low
-  high : a.high ≡ m.high
-  phase : a.phase ≡ m.phase
-  job : (s : Stage) → a.job ≡ Some s → is_image s ≡ true
-  copy : a.copy ≡ cond grown (option_map (grown_in_step m.phase) m.copy) m.copy
-  told : NoneSynced m.reports → NoneSynced a.reports
-
-downs_at : (s : Stage) (m : Manager) → is_image s ≡ true → Downs m (with_job (Some s) m) false
-downs_at s m h = record {
-  low = refl;
-  high = refl;
-  phase = refl;
-  job = λ x e. subst (λ y. is_image y ≡ true) (same_Some s x e) h;
-  copy = refl;
-  told = λ n. n;
-}
-
-downs_failed : (why : ImageReason) (m : Manager) → Downs m (image_failed why m) false
-downs_failed why m = record {
-  low = refl;
-  high = refl;
-  phase = refl;
-  job = λ x e. absurd (cc);
-  copy = refl;
-  told = λ n. none_more m.reports (report.ImageFailed why) n refl;
-}
-
-downs_freed : (f : Frame) (s : Stage) (m : Manager) → m.job ≡ Some s → is_image s ≡ true
-    → Downs m (freed f m) false
-downs_freed f s m e h = record {
-  low = refl;
-  high = refl;
-  phase = refl;
-  job = λ x g. subst (λ y. is_image y ≡ true) (same_Some s x (sym e ∙ g)) h;
-  copy = refl;
-  told = λ n. none_more m.reports (report.Freed f.tci) n refl;
-}
-
-started_downs : (b : Bool) (number granted : ℕ) (order : Order) (asked : ℕ) (image : List ℕ)
-    (m : Manager) → Downs m (started_if b number granted order asked image m) b
-unfolding counted_in_step
-started_downs true number granted order asked image m = record {
-  low = refl;
-  high = refl;
-  phase = refl;
-  job = λ x e. subst (λ y. is_image y ≡ true)
-      (same_Some (SendingImage order (new_outgoing image (min asked granted)) 0) x e) refl;
-  copy = refl;
-  told = λ n. n;
-}
-started_downs false number granted order asked image m =
-    downs_failed (image_reason.Code (record { 0 = number })) m
-
-start_downs : (number granted : ℕ) (order : Order) (asked : ℕ) (image : List ℕ) (m : Manager)
-    → Downs m (image_started number granted order asked image m) (number == 0)
-unfolding image_started
-start_downs number granted order asked image m =
-    started_downs (number == 0) number granted order asked image m
-
-taken_downs : (last : Bool) (order : Order) (o : Outgoing) (m : Manager)
-    → Downs m (window_taken last order o m) false
-taken_downs true order o m = downs_at (EndingImage order o.image 0) m refl
-taken_downs false order o m = downs_at (SendingImage order (after_window o) 0) m refl
-
-refused_downs : (more : Bool) (number : ℕ) (order : Order) (o : Outgoing) (resent : ℕ) (m : Manager)
-    → Downs m (window_refused more number order o resent m) false
-refused_downs true number order o resent m = downs_at (SendingImage order o (resent + 1)) m refl
-refused_downs false number order o resent m =
-    downs_failed (image_reason.Code (record { 0 = number })) m
-
-window_by_downs : (good : Bool) (number : ℕ) (order : Order) (o : Outgoing) (resent : ℕ)
-    (m : Manager) → Downs m (window_by good number order o resent m) false
-window_by_downs true number order o resent m = taken_downs (is_last o) order o m
-window_by_downs false number order o resent m =
-    refused_downs (nat_lt resent MOST_RESENT) number order o resent m
-
-window_downs : (number : ℕ) (order : Order) (o : Outgoing) (resent : ℕ) (m : Manager)
-    → Downs m (window_answered number order o resent m) false
-unfolding window_answered
-window_downs number order o resent m = window_by_downs (number == 0) number order o resent m
-
-busy_downs : (more : Bool) (order : Order) (image : List ℕ) (times : ℕ) (m : Manager)
-    → Downs m (busy_if more order image times (with_report (report.Busy times) m)) false
-busy_downs true order image times m = record {
-  low = refl;
-  high = refl;
-  phase = refl;
-  job = λ x e. subst (λ y. is_image y ≡ true) (same_Some (DelayingEnd order image times) x e) refl;
-  copy = refl;
-  told = λ n. none_more m.reports (report.Busy times) n refl;
-}
-busy_downs false order image times m = record {
-  low = refl;
-  high = refl;
-  phase = refl;
-  job = λ x e. absurd (cc);
-  copy = refl;
-  told = λ n.
-      none_more (with_report (report.Busy times) m).reports
-      (report.ImageFailed (image_reason.Code (record { 0 = BUSY.0 })))
-      (none_more m.reports (report.Busy times) n refl) refl;
-}
-
-end_by_downs : (done busy : Bool) (number : ℕ) (order : Order) (image : List ℕ) (times : ℕ)
-    (m : Manager) → Downs m (end_by done busy number order image times m) done
-unfolding counted_in_step
-end_by_downs true busy number order image times m = record {
-  low = refl;
-  high = refl;
-  phase = refl;
-  job = λ x e. absurd (cc);
-  copy = refl;
-  told = λ n. none_more m.reports (report.ImageDone order.slot) n refl;
-}
-end_by_downs false true number order image times m =
-    busy_downs (nat_le (times + 1) MOST_BUSY) order image (times + 1) m
-end_by_downs false false number order image times m =
-    downs_failed (image_reason.Code (record { 0 = number })) m
-
-end_downs : (number : ℕ) (order : Order) (image : List ℕ) (times : ℕ) (m : Manager)
-    → Downs m (end_answered number order image times m) (number == 0)
-unfolding end_answered
-end_downs number order image times m =
-    end_by_downs (number == 0) (number == BUSY.0) number order image times m
-
-start_other : (o : Option Response) → IsOther o → (order : Order) (asked : ℕ) (image : List ℕ)
-    (f : Frame) (m : Manager) → start_by_reply o order asked image f m ≡ freed f m
-start_other (Some (response.Start code granted)) h order asked image f m = absurd h
-start_other _ h order asked image f m = refl
-
-end_other : (o : Option Response) → IsOther o → (order : Order) (image : List ℕ) (busy : ℕ)
-    (f : Frame) (m : Manager) → end_by_reply o order image busy f m ≡ freed f m
-end_other (Some (response.End code)) h order image busy f m = absurd h
-end_other _ h order image busy f m = refl
-
-window_reply_downs : (o : Option Response) (order : Order) (outgoing : Outgoing) (resent : ℕ)
-    (f : Frame) (m : Manager) → m.job ≡ Some (SendingImage order outgoing resent)
-    → Downs m (window_by_reply o order outgoing resent f m) false
-window_reply_downs (Some (response.Section code number)) order outgoing resent f m e =
-    window_downs code.0 order outgoing resent m
-window_reply_downs _ order outgoing resent f m e =
-    downs_freed f (SendingImage order outgoing resent) m e refl
-
--- a request that is neither a start nor an end, among the job's
-other_form : (r : Request) → is_changing r ≡ false → form r ≡ 0
-other_form (request.Start window size targets target) e = absurd (false≢true (sym e))
-other_form (request.End check size targets target) e = absurd (false≢true (sym e))
-other_form _ e = refl
 
 -- ---- a reply is taken
 

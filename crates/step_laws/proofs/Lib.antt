@@ -13,7 +13,9 @@ pub mod Turning
 pub mod Taking
 pub mod Going
 pub mod Turns
+pub mod Becoming
 pub mod Hearing
+pub mod Quiet
 pub mod Lines
 pub mod Runs
 pub mod Checking

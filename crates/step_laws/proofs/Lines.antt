@@ -1,10 +1,8 @@
 -- Each line of a script keeps all.
-use Rattle.std.proofs.Common.{◌≡◌, ◌≢◌, ℕ, ◌+◌, ◌<◌, ◌^◌, Bool, true, false, List, [], ◌∷◌, ◌++◌}
-use Rattle.std.proofs.Common.{length, map, reverse, Option, Some, None, ◌⊎◌, inl, inr, refl, sym, ap, subst}
+use Rattle.std.proofs.Common.{◌≡◌, ◌≢◌, ℕ, ◌+◌, ◌<◌, ◌^◌, true, false, List, [], ◌∷◌, ◌++◌, length}
+use Rattle.std.proofs.Common.{map, reverse, Option, Some, None, inl, inr, refl, sym, ap, subst}
 use Rattle.std.proofs.Common.{arith}
 use Rattle.std.proofs.lemmas.Option.{same_Some}
-use Rattle.std.proofs.lemmas.Bool.{false≢true}
-use Rattle.std.specs.List.{flat_map}
 use Rattle.omci_types.specs.declared.EntityId.{EntityId}
 use Rattle.omci_types.specs.declared.Priority.{Priority}
 use Rattle.omci_types.specs.declared.Priority.TheVariants.{Low, High}
@@ -15,19 +13,15 @@ use Rattle.mib_spec.specs.Database.{Database, first, image_values, has_unit_enti
 use Rattle.mib_spec.specs.declared.Sensed.{Sensed}
 use Rattle.mib_spec.specs.declared.Sensed.TheVariants as sensed
 use Rattle.mib_spec.specs.Requests.{sense_outcome}
-use Rattle.alarm_spec.specs.Alarms.{Alarm}
 use Rattle.mib_laws.proofs.UnitEntities.{first_has, keeps_sense}
-use Rattle.upload_spec.specs.Pieces.{Copy}
 use Rattle.script_spec.specs.Script.{Header}
 use Rattle.link_spec.specs.declared.Direction.{Direction}
 use Rattle.link_spec.specs.declared.Direction.TheVariants.{Down, Up}
 use Rattle.link_spec.specs.Link.{Sent, Link, empty_link, allowed, sent_on, delivered_on, emptied}
 use Rattle.lane_spec.specs.Command.{ask, is_changing}
 use Rattle.manager_spec.specs.declared.Refusal.{Refusal}
-use Rattle.manager_spec.specs.declared.Report.{Report}
 use Rattle.manager_spec.specs.declared.Report.TheVariants as report
-use Rattle.manager_spec.specs.Manager.{Manager, Outcome, Sending, Asking, with_report}
-use Rattle.manager_spec.specs.Manager.{manager_started, Stage, EndingImage}
+use Rattle.manager_spec.specs.Manager.{Manager, Outcome, Asking, with_report, manager_started}
 use Rattle.manager_spec.specs.Submitting.{Submission, unless_refused, probe_refusal, after_probe}
 use Rattle.manager_spec.specs.Submitting.{submit_refusal, after_submit, check_refusal, after_check}
 use Rattle.manager_spec.specs.Submitting.{resync_refusal, after_resync, audit_refusal, after_audit}
@@ -50,24 +44,19 @@ use Rattle.store_spec.specs.State.{store_started, software_of}
 use Rattle.store_spec.specs.Effects.{entries_before}
 use Rattle.unit_spec.specs.Onu.{Onu, Reception, onu_started, onu_received, onu_ticked, packet_deed}
 use Rattle.history_spec.specs.History.{WasCarried}
-use Rattle.world_spec.specs.Happenings.{Happening, PacketCame, UnitCarried, UnitNoted, CommandDrawn}
-use Rattle.world_spec.specs.Happenings.{ReplyTaken, NoticeTaken, CopyTold, TableTold, ImageStored}
-use Rattle.world_spec.specs.Happenings.{PowerCut, ImageTold, link_read}
-use Rattle.world_spec.specs.Ends.{Step, factory_slots, not_enabled, preceded, sends, if_drawn}
-use Rattle.world_spec.specs.Ends.{image_told, download_told, stage_in, stored, unit_starts, restarts}
-use Rattle.world_spec.specs.Ends.{unit_cut_amid, cut_at, cut_in}
-use Rattle.world_spec.specs.Ends.{if_asked, goes_down, copy_told, result_told, report_told}
-use Rattle.world_spec.specs.Ends.{manager_did, submission_step, submission, manager_got}
-use Rattle.world_spec.specs.Ends.{manager_ticks, unit_deed, unit_did, unit_got, arrives_at, arrives}
-use Rattle.world_spec.specs.Ends.{noise, unit_ticks, second, cut_unit, cut_manager, start_unit}
+use Rattle.world_spec.specs.Happenings.{PacketCame, ImageStored, PowerCut, link_read}
+use Rattle.world_spec.specs.Ends.{Step, factory_slots, not_enabled, preceded, stage_in, stored}
+use Rattle.world_spec.specs.Ends.{unit_starts, restarts, unit_cut_amid, cut_at, cut_in, manager_did}
+use Rattle.world_spec.specs.Ends.{submission_step, submission, manager_got, manager_ticks}
+use Rattle.world_spec.specs.Ends.{unit_deed, unit_did, unit_got, arrives_at, arrives, noise}
+use Rattle.world_spec.specs.Ends.{unit_ticks, second, cut_unit, cut_manager, start_unit}
 use Rattle.world_spec.specs.Ends.{start_manager, notice_sent, unit_notices}
 use Rattle.world_spec.specs.Nodes.{Nodes, first_nodes, delivery_of, delivery, cut_of, cut_delivery}
 use Rattle.world_spec.specs.Nodes.{nodes_after_step}
 use Rattle.world_spec.specs.History.{Told, first_told, name_at, tell, tell_all}
 use Rattle.resync_laws.proofs.Reading.{noise_read, is_plain}
 use Rattle.resync_laws.proofs.Unit.{IsIdle, Leaves, Carries, Receives, receives, noise_drops}
-use Rattle.resync_laws.proofs.Telling.{tell_append, link_append, deeds_of, all_deeds, NoneSynced}
-use Rattle.resync_laws.proofs.Telling.{none_more}
+use Rattle.resync_laws.proofs.Telling.{tell_append, link_append, all_deeds, NoneSynced, none_more}
 use Rattle.resync_laws.proofs.Serving.{history_after, unit_after}
 use Rattle.resync_laws.proofs.Lines.{Fine, StepFine, alarmed_database}
 use Rattle.resync_laws.specs.Databases.{IsWholeDatabase}
@@ -86,6 +75,7 @@ use Rattle.step_laws.proofs.Turns.{probe_steps, check_steps, resync_steps, audit
 use Rattle.step_laws.proofs.Turns.{image_steps, submit_steps, tick_steps}
 use Rattle.step_laws.proofs.Taking.{stored_steady}
 use Rattle.step_laws.proofs.Hearing.{IsFenced, IsHeard, SomeDid, packet_steps}
+use Rattle.step_laws.proofs.Quiet.{kept_tell, kept_deeds}
 
 -- all of the nodes
 abbrev pub Sures : Nodes → Told → Type 0
@@ -112,124 +102,6 @@ sure_some link lives unit m t h k = record {
   steady = λ x e. subst (λ y. Steady link lives unit y t) (same_Some m x e) h;
   kept = k;
 }
-
--- ---- what the manager does tells nothing of the unit
-
-abbrev is_unit : Happening → Bool
-is_unit (UnitCarried life reply before) = true
-is_unit (UnitNoted life note before) = true
-is_unit _ = false
-
-abbrev AllAside : List Happening → Type 0
-AllAside [] = Unit {0}
-AllAside (h ∷ rest) = (is_unit h ≡ false) × AllAside rest
-
-aside_append : (xs ys : List Happening) → AllAside xs → AllAside ys → AllAside (xs ++ ys)
-aside_append [] ys h k = k
-aside_append (x ∷ xs) ys h k = (h.0, aside_append xs ys h.1 k)
-
-kept_tell : (lives : ℕ) (unit : Option Onu) (h : Happening) (t : Told) → is_unit h ≡ false
-    → Kept lives unit t.history → Kept lives unit (tell h t).history
-kept_tell lives unit (UnitCarried life reply before) t e k = absurd (false≢true (sym e))
-kept_tell lives unit (UnitNoted life note before) t e k = absurd (false≢true (sym e))
-kept_tell lives unit (ReplyTaken lane) t e k =
-    record { has = k.has; past = k.past; snapshots = k.snapshots }
-kept_tell lives unit (TableTold table) t e k =
-    record { has = k.has; past = k.past; snapshots = k.snapshots }
-kept_tell lives unit (CopyTold copy) t e k =
-    record { has = k.has; past = k.past; snapshots = k.snapshots }
-kept_tell lives unit (ImageStored entry) t e k =
-    record { has = k.has; past = k.past; snapshots = k.snapshots }
-kept_tell lives unit (ImageTold slot image) t e k =
-    record { has = k.has; past = k.past; snapshots = k.snapshots }
-kept_tell lives unit (CommandDrawn Low) t e k = k
-kept_tell lives unit (CommandDrawn High) t e k = k
-kept_tell lives unit _ t e k = k
-
-kept_all : (lives : ℕ) (unit : Option Onu) (hs : List Happening) (t : Told) → AllAside hs
-    → Kept lives unit t.history → Kept lives unit (tell_all hs t).history
-kept_all lives unit [] t a k = k
-kept_all lives unit (h ∷ hs) t a k =
-    kept_all lives unit hs (tell h t) a.1 (kept_tell lives unit h t a.0 k)
-
-aside_taken : (lanes : List Priority) → AllAside (map ReplyTaken lanes)
-aside_taken [] = tt
-aside_taken (x ∷ lanes) = (refl, aside_taken lanes)
-
-aside_noticed : (notices : List Alarm) → AllAside (map NoticeTaken notices)
-aside_noticed [] = tt
-aside_noticed (x ∷ notices) = (refl, aside_noticed notices)
-
-aside_copy : (copy : Option Copy) → AllAside (copy_told copy)
-aside_copy None = tt
-aside_copy (Some copy) = (refl, tt)
-
-aside_result : (r : Report) (m : Manager) → AllAside (result_told r m)
-aside_result (report.Synced entities counter) m = aside_copy m.copy
-aside_result (report.Audited rows) m = (refl, tt)
-aside_result _ m = tt
-
-aside_reports : (rs : List Report) (m : Manager) → AllAside (flat_map (report_told m) rs)
-aside_reports [] m = tt
-aside_reports (r ∷ rs) m = (
-  refl,
-  aside_append (result_told r m) (flat_map (report_told m) rs) (aside_result r m)
-      (aside_reports rs m),
-)
-
-aside_packets : (lane : Priority) (packets : List (List ℕ))
-    → AllAside (map (goes_down lane) packets)
-aside_packets lane [] = tt
-aside_packets lane (p ∷ packets) = (refl, aside_packets lane packets)
-
-aside_sending : (s : Sending) → AllAside (sends s)
-aside_sending s =
-    aside_append (if_drawn s.drawn s.lane ++ if_asked s.asks s.lane)
-    (map (goes_down s.lane) s.packets)
-    (aside_append (if_drawn s.drawn s.lane) (if_asked s.asks s.lane) (drawn s.drawn) (asked s.asks))
-    (aside_packets s.lane s.packets)
-  where
-    drawn : (b : Bool) → AllAside (if_drawn b s.lane)
-    drawn true = (refl, tt)
-    drawn false = tt
-
-    asked : (b : Bool) → AllAside (if_asked b s.lane)
-    asked true = (refl, tt)
-    asked false = tt
-
-aside_sends : (ss : List Sending) → AllAside (flat_map sends ss)
-aside_sends [] = tt
-aside_sends (s ∷ ss) = aside_append (sends s) (flat_map sends ss) (aside_sending s) (aside_sends ss)
-
-aside_image : (before : Option Stage) (slot : ℕ) → AllAside (image_told before slot)
-aside_image (Some (EndingImage order image busy)) slot = (refl, tt)
-aside_image None slot = tt
-aside_image (Some _) slot = tt
-
-aside_download : (before : Option Stage) (r : Report) → AllAside (download_told before r)
-aside_download before (report.ImageDone slot) = aside_image before slot
-aside_download before _ = tt
-
-aside_downloads : (before : Option Stage) (rs : List Report)
-    → AllAside (flat_map (download_told before) rs)
-aside_downloads before [] = tt
-aside_downloads before (r ∷ rs) =
-    aside_append (download_told before r) (flat_map (download_told before) rs)
-    (aside_download before r) (aside_downloads before rs)
-
-kept_deeds : (before : Option Stage) (lives : ℕ) (unit : Option Onu) (o : Outcome) (t : Told)
-    → Kept lives unit t.history → Kept lives unit (tell_all (all_deeds before o) t).history
-kept_deeds before lives unit o t k =
-    kept_all lives unit (all_deeds before o) t
-    (aside_append (deeds_of o) (flat_map (download_told before) o.manager.reports)
-    (aside_append (map ReplyTaken o.taken ++ map NoticeTaken o.noticed ++ flat_map
-    (report_told o.manager) o.manager.reports) (flat_map sends o.sendings)
-    (aside_append (map ReplyTaken o.taken ++ map NoticeTaken o.noticed)
-    (flat_map (report_told o.manager) o.manager.reports)
-    (aside_append (map ReplyTaken o.taken) (map NoticeTaken o.noticed) (aside_taken o.taken)
-    (aside_noticed o.noticed))
-    (aside_reports o.manager.reports o.manager))
-    (aside_sends o.sendings)) (aside_downloads before o.manager.reports)) k
 
 -- ---- a manager that has just started
 

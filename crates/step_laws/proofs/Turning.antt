@@ -35,7 +35,7 @@ use Rattle.manager_spec.specs.Steps.{code_of, first_value, expected_counter, com
 use Rattle.manager_spec.specs.Steps.{counters_compared, checked_if, checked_by, loss_seen, taken_as}
 use Rattle.manager_spec.specs.Steps.{packet_dropped, not_taken, take_if, frame_came, for_frame}
 use Rattle.manager_spec.specs.Steps.{after_packet}
-use Rattle.resync_laws.proofs.Taking.{fails, mild_leave}
+use Rattle.resync_laws.proofs.Mild.{fails, mild_leave}
 use Rattle.step_laws.proofs.Parts.{lane_at, out_in, is_image, AtCommand}
 use Rattle.step_laws.proofs.Milder.{Waited, Fewer, KeepsCommand, Milder}
 

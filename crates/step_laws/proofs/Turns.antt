@@ -40,7 +40,7 @@ use Rattle.world_spec.specs.Happenings.{ReplyTaken, NoticeTaken}
 use Rattle.world_spec.specs.History.{Told, tell_all}
 use Rattle.resync_laws.proofs.Reading.{is_plain}
 use Rattle.resync_laws.proofs.Telling.{NoneSynced}
-use Rattle.resync_laws.proofs.Taking.{mild_leave}
+use Rattle.resync_laws.proofs.Mild.{mild_leave}
 use Rattle.resync_laws.proofs.Turns.{two_none, three_none, five_none, not_occupied, not_running}
 use Rattle.resync_laws.proofs.Turns.{lane_quiet, lane_taken, lane_noticed, resume_silent}
 use Rattle.step_laws.proofs.Reading.{IsExact}

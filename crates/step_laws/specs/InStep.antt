@@ -79,7 +79,8 @@ pub record AreInStep (n : Nodes) (t : Told) (m : Manager) (u : Onu) (command : �
   pub synced : LastSynced command t.history
   pub life : LastSnapshotIn n.ends.lives command t.history
 
--- the manager waits in that lane for the reply to a change, or to the start or the end of a download
+-- the manager waits in that lane for the reply to a change, or to the start or the end of a
+-- download
 pub record IsOutstandingChange (lane : Priority) (m : Manager) (w : Waiting) : Type 0 where
   pub waits : (lane_in lane m).outstanding ≡ Some w
   pub changing : is_changing w.command.request ≡ true

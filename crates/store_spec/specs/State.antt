@@ -57,8 +57,7 @@ store_started boot s = record {
   slots = s;
   active = slot_to_run boot s;
   doubt = Keep;
-  broken =
-      false;
+  broken = false;
   download = None;
 }
 

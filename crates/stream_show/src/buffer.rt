@@ -125,8 +125,8 @@ impl StreamBuffer {
         self.at = self.at.saturating_add(count as u64);
     }
 
-    /// Reads at most so many bytes, and a piece at most, after those that are held. Answers how many
-    /// were read: 0 is the stream's end.
+    /// Reads at most so many bytes, and a piece at most, after those that are held. Answers how
+    /// many were read: 0 is the stream's end.
     pub(crate) fn fill<S: Source>(&mut self, source: &mut S, most: usize) -> Result<usize, Failed>
         requires few { length self.old.held ≤ MAX_PACKET_BYTES }
         requires some { 0 < most }

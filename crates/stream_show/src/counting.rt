@@ -23,8 +23,8 @@ pub struct Counts {
     pub unknown: u64,
 }
 
-/// Appends the line of a stream in which no frame is refused: `frames N unknown U`. `NoMemory` where
-/// `out` can't grow.
+/// Appends the line of a stream in which no frame is refused: `frames N unknown U`. `NoMemory`
+/// where `out` can't grow.
 #[tactic(auto, unfolding(show_spec::specs::Shown::count_text))]
 pub fn push_count_text(out: &mut Vec<u8>, counts: Counts) -> Result<(), NoMemory>
     ensures text { OnOk result (out.new.items
@@ -77,9 +77,9 @@ fn count_held(buffer: &mut StreamBuffer, counts: &mut Counts) -> Result<(), Stre
 ///
 /// # Errors
 ///
-/// What ends the reading: the first frame that is refused, with its place and the reason, be it as a
-/// frame or as a message, or the stream's end within a frame; a fault of the source; a byte past the
-/// limit, where nothing before it is refused; want of memory.
+/// What ends the reading: the first frame that is refused, with its place and the reason, be it as
+/// a frame or as a message, or the stream's end within a frame; a fault of the source; a byte past
+/// the limit, where nothing before it is refused; want of memory.
 pub fn check<S: Source>(alloc: Global, source: &mut S, limit: usize) -> Result<Counts, StreamEnd>
     ensures counts { CountsTo limit result
         (S.left source.old) (S.left source.new) (S.faults source.old) (S.faults source.new) }

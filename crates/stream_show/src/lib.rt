@@ -1,5 +1,5 @@
-//! The commands `show` and `check` over a source: a stream of frames of both message sets is read in
-//! pieces of 64 KiB, and the text of each frame is written, or the frames are counted.
+//! The commands `show` and `check` over a source: a stream of frames of both message sets is read
+//! in pieces of 64 KiB, and the text of each frame is written, or the frames are counted.
 #![tactic(auto)]
 
 mod buffer;

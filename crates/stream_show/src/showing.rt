@@ -93,8 +93,8 @@ fn show_held<K: Sink>(
 }
 
 /// Reads a stream of frames of both message sets, in pieces of 64 KiB, and writes the text of each
-/// frame and a line feed. Lines are gathered in pieces of 64 KiB, and all lines of the frames read so
-/// far are written before more is read. The stream may have so many bytes as `limit` says.
+/// frame and a line feed. Lines are gathered in pieces of 64 KiB, and all lines of the frames read
+/// so far are written before more is read. The stream may have so many bytes as `limit` says.
 ///
 /// # Errors
 ///

@@ -35,7 +35,8 @@ is_fault (taken.Fault at fault) = true
 
 -- the answer where so many bytes are held that show no fault, the first of them from this place
 abbrev pub held_bytes_fault : ℕ → ℕ → Result Unit StreamFault
-held_bytes_fault count at = if count == 0 then Ok tt else Err (record { at = at; fault = Short count })
+held_bytes_fault count at = if count == 0 then Ok tt
+    else Err (record { at = at; fault = Short count })
 
 -- The answer of a reader whose stream has ended: a fault that stands, or the bytes that are held,
 -- also where they are a whole frame that was not taken.

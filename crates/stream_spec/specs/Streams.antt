@@ -1,5 +1,5 @@
--- Streams of frames, for any set of frames: what bytes show at their front, and what a reader holds.
--- Frames are of a type F, faults of a type X; places in a stream count from 0.
+-- Streams of frames, for any set of frames: what bytes show at their front, and what a reader
+-- holds. Frames are of a type F, faults of a type X; places in a stream count from 0.
 use Rattle.std.specs.Prelude.{◌≡◌, ℕ, ◌+◌, ◌-◌, ◌^◌, min, List, [], ◌∷◌, ◌++◌, length, take, drop, All}
 use Rattle.std.specs.List.{flat_map}
 use Rattle.frame_spec.specs.Baseline.{IsBytes}
@@ -19,7 +19,8 @@ BeginsWith front bytes = take (length front) bytes ≡ front
 
 -- the bytes are the spellings of these frames, one after the other, and then the rest, which begins
 -- with no frame
-pub record IsStream {F : Type 0} (IsFrame : F → Type 0) (spell : F → List ℕ) (bytes : List ℕ) (frames : List F) (rest : List ℕ) : Type 0 where
+pub record IsStream {F : Type 0} (IsFrame : F → Type 0) (spell : F → List ℕ) (bytes : List ℕ)
+    (frames : List F) (rest : List ℕ) : Type 0 where
   pub spelled : bytes ≡ flat_map spell frames ++ rest
   pub valid : All IsFrame frames
   pub no_more : (frame : F) → IsFrame frame → BeginsWith (spell frame) rest → ⊥
@@ -50,11 +51,15 @@ bytes_taken (Faulty fault) room reader piece = 0
 
 -- a reader after a piece was offered to it
 abbrev pub after_feed : {F X : Type 0} → (List ℕ → Front F X) → ℕ → List ℕ → Reader → Reader
-after_feed front room piece reader = with_bytes (take (bytes_taken (front reader.held) room reader piece) piece) reader
+after_feed front room piece reader =
+    with_bytes (take (bytes_taken (front reader.held) room reader piece) piece) reader
 
 -- a reader after it was asked for a frame: a whole frame's bytes are held no longer
 unfoldable pub after_take : {F X : Type 0} → Front F X → Reader → Reader
-after_take (Whole frame count) reader = record { at = place_after reader.at count; held = drop count reader.held }
+after_take (Whole frame count) reader = record {
+  at = place_after reader.at count;
+  held = drop count reader.held;
+}
 after_take Open reader = reader
 after_take (Faulty fault) reader = reader
 
@@ -92,9 +97,11 @@ after_call front room Take c = record {
 }
 
 -- some calls more, one after the other
-unfoldable pub after_calls : {F X : Type 0} → (List ℕ → Front F X) → ℕ → List Call → Course F → Course F
+unfoldable pub after_calls : {F X : Type 0} → (List ℕ → Front F X) → ℕ → List Call → Course F
+    → Course F
 after_calls front room [] c = c
-after_calls front room (call ∷ calls) c = after_calls front room calls (after_call front room call c)
+after_calls front room (call ∷ calls) c =
+    after_calls front room calls (after_call front room call c)
 
 -- a call that offers bytes
 abbrev pub IsCall : Call → Type 0

@@ -1,4 +1,5 @@
--- TCIs and the numbers of commands. A priority's commands are numbered from 1 to 32,767 and from 1 again.
+-- TCIs and the numbers of commands. A priority's commands are numbered from 1 to 32,767 and from 1
+-- again.
 use Rattle.std.specs.Prelude.{ℕ, ◌+◌, ◌==◌, Bool, if◌then◌else◌, nat_lt, ◌≤◌, List, take}
 use Rattle.std.specs.Int.{from_be_bytes, w16}
 use Rattle.omci_types.specs.declared.Priority.{Priority}

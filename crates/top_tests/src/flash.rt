@@ -1,4 +1,5 @@
-//! A flash of a disk in memory: what stands there afterwards, and how it ends where it can't be done.
+//! A flash of a disk in memory: what stands there afterwards, and how it ends where it can't be
+//! done.
 
 use crate::harness::{FLASH, LENGTH, call, calls_no_disk, disk_of, source_of};
 use image_slots::{SlotView, Slots};
@@ -111,7 +112,8 @@ fn an_image_that_is_refused_calls_no_disk(rt: HostRuntime) -> Result<(), Fail> {
     Ok(())
 }
 
-/// The attach, the magic's removal and its sync, seven writes and their sync, the magic and its sync.
+/// The attach, the magic's removal and its sync, seven writes and their sync, the magic and its
+/// sync.
 const DEVICE_CALLS: u64 = 13;
 
 #[test]

@@ -1,6 +1,7 @@
 //! The top call over memory.
 
 use omci_core::{MemSink, MemSource, NoMemory, Words};
+use omci_link::MemLink;
 use omci_top::{End, Status, omci};
 use slot_disk::{Disk, MemDisk};
 use std::alloc::Global;
@@ -23,7 +24,12 @@ pub fn call(
         line.push(word)?;
     }
     let mut sink = MemSink::new(alloc, 0, Vec::new(alloc))?;
-    Ok(omci(alloc, &line, source, &mut sink, disk))
+    Ok(omci(alloc, &line, source, &mut sink, disk, &mut no_link(alloc)?))
+}
+
+/// A link that gives nothing and takes nothing.
+pub fn no_link(alloc: Global) -> Result<MemLink, NoMemory> {
+    MemLink::new(alloc, Vec::new(alloc), 0, Vec::new(alloc))
 }
 
 /// A source of so many copies of a byte, of which no read fails.

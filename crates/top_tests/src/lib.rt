@@ -1,4 +1,5 @@
-//! Whole calls of the top call over a source, a sink and a disk in memory. The crate has tests alone.
+//! Whole calls of the top call over a source, a sink and a disk in memory. The crate has tests
+//! alone.
 #![tactic(auto)]
 
 #[cfg(test)]

@@ -1,7 +1,7 @@
 //! What comes back of a call beside its status: the world, and the disk as it was; and words that
 //! are no command line.
 
-use crate::harness::{calls_no_disk, disk_of, is_untouched, source_of};
+use crate::harness::{calls_no_disk, disk_of, is_untouched, no_link, source_of};
 use omci_core::{MemSink, MemSource, NoMemory, Words};
 use omci_top::{Status, omci};
 use std::alloc::Global;
@@ -20,7 +20,15 @@ fn gives_world(alloc: Global, script: &[u8], events: Option<u64>) -> Result<bool
     words.push(b"replay")?;
     let mut source = MemSource::new(Vec::from_slice(alloc, script)?, Vec::new(alloc));
     let mut sink = MemSink::new(alloc, 1000, Vec::new(alloc))?;
-    let end = omci(alloc, &words, &mut source, &mut sink, disk_of(alloc, 1, 1)?);
+    let mut link = no_link(alloc)?;
+    let end = omci(
+        alloc,
+        &words,
+        &mut source,
+        &mut sink,
+        disk_of(alloc, 1, 1)?,
+        &mut link,
+    );
     let is_done = end.status == Status::Done;
     let found = end.world.map(|world| world.events());
     Ok(is_done == events.is_some() && found == events && is_untouched(end.disk))

@@ -1,1 +1,3 @@
 pub mod Arrivals
+pub mod OltTurns
+pub mod UnitTurns

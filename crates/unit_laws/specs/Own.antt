@@ -1,4 +1,5 @@
--- The entities that may have alarms: those with alarms of the ones that the unit makes at its start.
+-- The entities that may have alarms: those with alarms of the ones that the unit makes at its
+-- start.
 use Rattle.std.specs.Prelude.{◌≡◌, Bool, true, List, [], ◌∷◌}
 use Rattle.std.specs.List.{list_any, filter}
 use Rattle.std.specs.BTreeMap.{is_at}

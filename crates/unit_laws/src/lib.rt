@@ -1,5 +1,5 @@
-//! Laws of the unit, proved of the definitions alone. Each function does nothing: what it ensures is
-//! the law, and a caller's proof may cite it.
+//! Laws of the unit, proved of the definitions alone. Each function does nothing: what it ensures
+//! is the law, and a caller's proof may cite it.
 #![tactic(auto)]
 
 ghost use Rattle.std.specs.Prelude.{◌≡◌, ◌≤◌, ℕ, Bool, true, List, length};

@@ -1,5 +1,5 @@
--- What the unit notices by itself: a value that it measured, or the alarms of an entity. It tells the
--- manager of a change by a notice.
+-- What the unit notices by itself: a value that it measured, or the alarms of an entity. It tells
+-- the manager of a change by a notice.
 use Rattle.std.specs.Prelude.{ℕ, ◌==◌, ◌&&◌, ◌||◌, not, is_none, Bool, true, false, List, [], Option, Some, None}
 use Rattle.omci_types.specs.declared.Boot.{Boot}
 use Rattle.omci_types.specs.declared.EntityId.{EntityId}
@@ -90,4 +90,5 @@ onu_alarmed one bitmap u =
 -- whether that takes memory: an entity has its first alarm
 abbrev pub alarm_takes : EntityId → List ℕ → Onu → Bool
 alarm_takes one bitmap u =
-    is_none u.leaving && (may_alarm one u.database && not (is_raised one u.log.alarms) && not (is_clear bitmap))
+    is_none u.leaving && (may_alarm one u.database && not (is_raised one u.log.alarms)
+    && not (is_clear bitmap))

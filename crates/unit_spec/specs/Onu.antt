@@ -1,6 +1,6 @@
 -- The unit: its database, for each priority the reply that it gave last, its alarms, what it put
--- by (the database for an upload, the alarms for an audit), its store of software images, and whether
--- it leaves.
+-- by (the database for an upload, the alarms for an audit), its store of software images, and
+-- whether it leaves.
 use Rattle.std.specs.Prelude.{ℕ, ◌+◌, ◌-◌, ◌/◌, ◌==◌, ◌&&◌, is_none, nat_le, Bool, true, false, List, [], ◌∷◌, length, replicate, Option, Some, None, Result, Ok, Err}
 use Rattle.omci_types.specs.declared.Code.{Code}
 use Rattle.omci_types.specs.declared.Frame.{Frame}
@@ -70,8 +70,8 @@ onu_started boot room slots =
       leaving = None;
     }
 
--- what a packet comes to: the unit after it, what it did, its reply, which is empty where it gave none, and what its store has for
--- the history, newest first
+-- what a packet comes to: the unit after it, what it did, its reply, which is empty where it gave
+-- none, and what its store has for the history, newest first
 pub record Reception : Type 0 where
   pub unit : Onu
   pub did : Did
@@ -83,8 +83,8 @@ drop_packet u = record { unit = u; did = did.Dropped; reply = []; stored = [] }
 
 -- ---- a request is carried out
 
--- what carrying a request out comes to: the response's frame, the unit after it, what else is told of it, and what its store has
--- for the history, newest first
+-- what carrying a request out comes to: the response's frame, the unit after it, what else is told
+-- of it, and what its store has for the history, newest first
 pub record Answer : Type 0 where
   pub reply : Frame
   pub unit : Onu
@@ -96,15 +96,25 @@ abbrev pub response_frame : Frame → Response → Frame
 response_frame f response = plain (Answered f.tci f.entity response)
 
 abbrev pub respond : Frame → Response → Onu → Answer
-respond f response u = record { reply = response_frame f response; unit = u; note = None; stored = [] }
+respond f response u = record {
+  reply = response_frame f response;
+  unit = u;
+  note = None;
+  stored = [];
+}
 
 abbrev pub with_database : Database → Onu → Onu
 with_database db u = record u { database = db }
 
--- The response to a request of a type that the unit doesn't carry out: the same type with AK in place of AR, and the
--- result 2. Nothing changes.
+-- The response to a request of a type that the unit doesn't carry out: the same type with AK in
+-- place of AR, and the result 2. Nothing changes.
 abbrev pub refusal_frame : Frame → Frame
-refusal_frame f = record { tci = f.tci; kind = f.kind - 32; entity = f.entity; contents = 2 ∷ replicate 31 0 }
+refusal_frame f = record {
+  tci = f.tci;
+  kind = f.kind - 32;
+  entity = f.entity;
+  contents = 2 ∷ replicate 31 0;
+}
 
 abbrev pub not_supported : Frame → Onu → Answer
 not_supported f u = record { reply = refusal_frame f; unit = u; note = None; stored = [] }
@@ -138,9 +148,11 @@ fresh_again (Some s) = Some (record s { age = 0 })
 
 abbrev pub upload_next : Frame → ℕ → Onu → Answer
 upload_next f number u =
-    respond f (response.UploadNext (next_piece number u.snapshot)) (record u { snapshot = fresh_again u.snapshot })
+    respond f (response.UploadNext (next_piece number u.snapshot))
+    (record u { snapshot = fresh_again u.snapshot })
 
--- get all alarms: the alarms are put by, the next notice has the number 1, and the response says how many rows there are
+-- get all alarms: the alarms are put by, the next notice has the number 1, and the response says
+-- how many rows there are
 abbrev pub get_alarms : Frame → Onu → Answer
 get_alarms f u =
     record {
@@ -177,7 +189,8 @@ image_deed f r u = deed u.room f.tci f.entity r u.store
 abbrev pub image_handled : (fails : Bool) → Deed → (slot : ℕ) → Onu → Onu
 image_handled fails d slot u =
     record u {
-      database = database_handled (handled_by fails d) (software_of (store_after fails d u.store)) u.database;
+      database = database_handled (handled_by fails d) (software_of (store_after fails d u.store))
+          u.database;
       store = store_after fails d u.store;
       leaving = leaving_handled (handled_by fails d) slot u.leaving;
     }
@@ -206,9 +219,11 @@ reboot f u =
 -- fails in it.
 unfoldable pub answer : (fails : Bool) → Frame → Request → Onu → Answer
 answer fails f (request.Create values) u =
-    let o = create_outcome f.entity values u.database in respond f (response.Create (code o.0) 0) (with_database o.1 u)
+    let o = create_outcome f.entity values u.database
+    in respond f (response.Create (code o.0) 0) (with_database o.1 u)
 answer fails f request.Delete u =
-    let o = delete_outcome f.entity u.database in respond f (response.Delete (code o.0)) (with_database o.1 u)
+    let o = delete_outcome f.entity u.database
+    in respond f (response.Delete (code o.0)) (with_database o.1 u)
 answer fails f (request.Set mask values) u =
     let o = set_outcome f.entity mask values u.database in
     respond f (response.Set (code o.code) o.unsupported o.failed) (with_database o.database u)
@@ -216,7 +231,8 @@ answer fails f (request.Get mask) u =
     let o = get_outcome f.entity mask u.database in
     respond f (response.Get (code o.code) o.mask o.values o.unsupported 0) u
 answer fails f request.Reset u =
-    respond f (response.Reset (code (reset_code f.entity))) (with_database (unless_refused (reset_code f.entity) (reset u.database) u.database) u)
+    respond f (response.Reset (code (reset_code f.entity)))
+    (with_database (unless_refused (reset_code f.entity) (reset u.database) u.database) u)
 answer fails f (request.Alarms mode) u = get_alarms f u
 answer fails f (request.AlarmsNext number) u = alarms_next f number u
 answer fails f request.Upload u = upload f u
@@ -254,7 +270,8 @@ abbrev pub unless_leaving : Option Boot → Reception → Onu → Reception
 unless_leaving None r u = r
 unless_leaving (Some boot) r u = drop_packet u
 
--- a request that comes again under the kept TCI of its priority is answered by the kept reply, and not carried out
+-- a request that comes again under the kept TCI of its priority is answered by the kept reply, and
+-- not carried out
 abbrev pub unless_kept : Option (List ℕ) → ℕ → Answer → Onu → Reception
 unless_kept (Some reply) tci a u = record { unit = u; did = did.Kept; reply = reply; stored = [] }
 unless_kept None tci a u = unless_leaving u.leaving (keep_reply tci a) u
@@ -298,7 +315,8 @@ abbrev pub if_request : Bool → Frame → Onu → Reception
 if_request true f u = take_request f (not_supported f u) u
 if_request false f u = drop_packet u
 
--- a request is answered; an unknown type counts as one where its bits are those of a request; nothing else is for the unit
+-- a request is answered; an unknown type counts as one where its bits are those of a request;
+-- nothing else is for the unit
 abbrev pub for_message : (fails : Bool) → Result Message ContentsFault → Frame → Onu → Reception
 for_message fails (Ok (Asked tci entity r)) f u = unless_quiet (asks_nothing r) fails f r u
 for_message fails (Ok (Answered tci entity r)) f u = drop_packet u
@@ -310,7 +328,8 @@ abbrev pub for_frame : (fails : Bool) → Option Frame → Onu → Reception
 for_frame fails None u = drop_packet u
 for_frame fails (Some f) u = for_message fails (message_of f) f u
 
--- A packet that comes, and whether a device call fails in it: one that isn't exactly one frame is nothing.
+-- A packet that comes, and whether a device call fails in it: one that isn't exactly one frame is
+-- nothing.
 unfoldable pub onu_received : (fails : Bool) → List ℕ → Onu → Reception
 onu_received fails bytes u = for_frame fails (packet_frame bytes) u
 
@@ -335,7 +354,8 @@ abbrev pub frame_deed : Option Frame → Onu → Deed
 frame_deed None u = Ignore
 frame_deed (Some f) u = message_deed (message_of f) f u
 
--- the deed of the store in a packet that comes: none where it is dropped or answered by a kept reply
+-- the deed of the store in a packet that comes: none where it is dropped or answered by a kept
+-- reply
 unfoldable pub packet_deed : List ℕ → Onu → Deed
 packet_deed bytes u = frame_deed (packet_frame bytes) u
 
@@ -368,7 +388,8 @@ onu_ticked u =
 
 -- ---- memory
 
--- whether carrying a request out takes memory: an entity is made, or the database or the alarms are put by
+-- whether carrying a request out takes memory: an entity is made, or the database or the alarms are
+-- put by
 abbrev pub takes_room : Frame → Request → Database → Bool
 takes_room f (request.Create values) db = create_code f.entity db == 0
 takes_room f request.Upload db = true
@@ -386,7 +407,7 @@ abbrev pub frame_takes : Option Frame → Onu → Bool
 frame_takes None u = false
 frame_takes (Some f) u = message_takes (message_of f) f u
 
--- whether a packet takes memory: it asks for an entity that will be made, an upload or the alarms, no kept reply answers it, and the
--- unit doesn't leave
+-- whether a packet takes memory: it asks for an entity that will be made, an upload or the alarms,
+-- no kept reply answers it, and the unit doesn't leave
 unfoldable pub takes_memory : List ℕ → Onu → Bool
 takes_memory bytes u = frame_takes (packet_frame bytes) u

@@ -1,5 +1,5 @@
-//! What the unit (the ONU end) is, and what it does with a packet and with a second. Plain types and
-//! definitions alone.
+//! What the unit (the ONU end) is, and what it does with a packet and with a second. Plain types
+//! and definitions alone.
 #![tactic(auto)]
 
 use omci_types::{Boot, EntityId};

@@ -11,7 +11,8 @@ abbrev pub IsShaped : List Attribute → Values → Type 0
 IsShaped [] [] = Unit {0}
 IsShaped [] (value ∷ values) = ⊥
 IsShaped (one ∷ rest) [] = ⊥
-IsShaped (one ∷ rest) (value ∷ values) = (value.0 ≡ one.number) × (length value.1 ≡ one.width) × IsShaped rest values
+IsShaped (one ∷ rest) (value ∷ values) = (value.0 ≡ one.number) × (length value.1 ≡ one.width)
+    × IsShaped rest values
 
 -- the attributes are numbered from this number on
 abbrev pub IsNumberedFrom : ℕ → List Attribute → Type 0

@@ -5,7 +5,16 @@ use Rattle.mib_spec.specs.Database.{first}
 use Rattle.upload_spec.specs.Pieces.{Copy, without_makers}
 
 abbrev pub one_image : Software
-one_image = record { first = Some (record { length = 1; crc = 255; version = 255 ∷ replicate 13 0 }); second = None; committed = 0; active = 0 }
+one_image = record {
+  first = Some (record {
+    length = 1;
+    crc = 255;
+    version = 255 ∷ replicate 13 0;
+  });
+  second = None;
+  committed = 0;
+  active = 0;
+}
 
 abbrev pub first_copy : Copy
 first_copy = without_makers (first one_image)
@@ -25,7 +34,8 @@ first_pieces =
     ethernet_piece 2 ∷
     ethernet_piece 3 ∷
     ethernet_piece 4 ∷
-    (1 ∷ 0 ∷ 0 ∷ 0 ∷ 224 ∷ 0 ∷ codes "OMC1" ++ replicate 14 0 ++ codes "OMC1" ++ (0 ∷ 0 ∷ 0 ∷ 1 ∷ [])) ∷
+    (1 ∷ 0 ∷ 0 ∷ 0 ∷ 224 ∷ 0 ∷ codes "OMC1" ++ replicate 14 0 ++ codes "OMC1"
+    ++ (0 ∷ 0 ∷ 0 ∷ 1 ∷ [])) ∷
     (1 ∷ 0 ∷ 0 ∷ 0 ∷ 31 ∷ 0 ∷ replicate 26 0) ∷
     (1 ∷ 1 ∷ 0 ∷ 0 ∷ 248 ∷ 0 ∷ replicate 20 0 ++ 160 ∷ 0 ∷ 0 ∷ 1 ∷ 1 ∷ 0 ∷ []) ∷
     (1 ∷ 1 ∷ 0 ∷ 0 ∷ 7 ∷ 128 ∷ replicate 26 0) ∷

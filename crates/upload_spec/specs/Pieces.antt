@@ -1,4 +1,5 @@
--- The pieces of an upload (ITU-T G.988, annex A, MIB upload next response, in this profile): the values of each entity, cut greedily.
+-- The pieces of an upload (ITU-T G.988, annex A, MIB upload next response, in this profile): the
+-- values of each entity, cut greedily.
 use Rattle.std.specs.Prelude.{ℕ, ◌+◌, Bool, true, false, nat_le, List, [], ◌∷◌, ◌++◌, length, take, drop, map, Option, if◌then◌else◌, slice_get}
 use Rattle.std.specs.Int.{to_be_bytes, from_be_bytes, w16}
 use Rattle.std.specs.List.{flat_map}
@@ -13,7 +14,8 @@ use Rattle.upload_spec.specs.declared.TheConstants.{PIECE_ROOM}
 abbrev pub fits : Values → ℕ × List ℕ → Bool
 fits group one = nat_le (length (bytes_of group) + length one.1) PIECE_ROOM
 
--- the values of the current piece after the next value: it is added, or it begins a piece of its own
+-- the values of the current piece after the next value: it is added, or it begins a piece of its
+-- own
 abbrev pub current : Bool → Values → ℕ × List ℕ → Values
 current fitting group one = (if fitting then group else []) ++ one ∷ []
 
@@ -24,7 +26,8 @@ ended fitting group = if fitting then [] else group ∷ []
 -- the values, piece by piece, where the current piece has some already
 abbrev pub groups_from : Values → Values → List Values
 groups_from group [] = group ∷ []
-groups_from group (one ∷ rest) = ended (fits group one) group ++ groups_from (current (fits group one) group one) rest
+groups_from group (one ∷ rest) = ended (fits group one) group
+    ++ groups_from (current (fits group one) group one) rest
 
 abbrev pub groups : Values → List Values
 groups values = groups_from [] values
@@ -37,7 +40,8 @@ mask_of (one ∷ rest) = bit_of one.0 + mask_of rest
 -- a piece: class, instance, mask, and the values, with zeros after them
 unfoldable pub piece_of : EntityId → Values → List ℕ
 piece_of one group =
-    to_be_bytes w16 one.class ++ to_be_bytes w16 one.instance ++ to_be_bytes w16 (mask_of group) ++ filled PIECE_ROOM (bytes_of group)
+    to_be_bytes w16 one.class ++ to_be_bytes w16 one.instance ++ to_be_bytes w16 (mask_of group)
+    ++ filled PIECE_ROOM (bytes_of group)
 
 abbrev pub pieces_of : EntityId → Values → List (List ℕ)
 pieces_of one values = map (piece_of one) (groups values)
@@ -60,7 +64,8 @@ piece_at number copy = slice_get (pieces copy) number
 
 -- what a piece says: its entity, its mask, and the bytes of its values
 abbrev pub entity_in : List ℕ → EntityId
-entity_in piece = entity (from_be_bytes w16 (take 2 piece)) (from_be_bytes w16 (take 2 (drop 2 piece)))
+entity_in piece = entity (from_be_bytes w16 (take 2 piece))
+    (from_be_bytes w16 (take 2 (drop 2 piece)))
 
 abbrev pub mask_in : List ℕ → ℕ
 mask_in piece = from_be_bytes w16 (take 2 (drop 4 piece))

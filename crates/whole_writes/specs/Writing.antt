@@ -4,7 +4,8 @@ use Rattle.std.specs.Io.KnownBytes.{Appends}
 use Rattle.omci_core.specs.Causes.{Rose}
 
 -- some of the piece's first bytes were added, and then the sink had a fault
-pub record BreaksOff (piece : List ℕ) (before now : Option (List ℕ)) (faults_before faults_now : ℕ) : Type 0 where
+pub record BreaksOff (piece : List ℕ) (before now : Option (List ℕ)) (faults_before faults_now : ℕ)
+    : Type 0 where
   pub done : List ℕ
   pub rest : List ℕ
   pub parts : piece ≡ done ++ rest

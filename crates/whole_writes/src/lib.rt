@@ -7,8 +7,8 @@ ghost use Rattle.whole_writes.specs.Writing.{BreaksOff};
 
 use omci_core::{Failed, Sink};
 
-/// Writes all of the bytes to the sink, which may take them in parts. `Failed` where the sink fails;
-/// then a front of them was written.
+/// Writes all of the bytes to the sink, which may take them in parts. `Failed` where the sink
+/// fails; then a front of them was written.
 pub fn write_all<K: Sink>(sink: &mut K, bytes: &[u8]) -> Result<(), Failed>
     ensures whole { OnOk result (Appends (K.written sink.old) (K.written sink.new) bytes.now) }
     ensures kept { OnOk result (K.faults sink.new ≡ K.faults sink.old) }

@@ -16,7 +16,11 @@ last_tci tci (s ∷ rest) = last_tci s.tci rest
 
 -- what is held where these sections are
 abbrev pub window_of : List Section → Window
-window_of held = record { sections = length held; tci = last_tci 0 held; bytes = flat_map (λ s. s.bytes) held }
+window_of held = record {
+  sections = length held;
+  tci = last_tci 0 held;
+  bytes = flat_map (λ s. s.bytes) held;
+}
 
 abbrev pub held_by : Fit → Section → List Section → List Section
 held_by Begins s held = s ∷ []
@@ -35,7 +39,8 @@ held_of (s ∷ rest) held = held_of rest (held_with s held)
 -- sections with the numbers from this one on, each under the TCI of the one before or the TCI after
 abbrev pub AreNext : ℕ → ℕ → List Section → Type 0
 AreNext number tci [] = Unit {0}
-AreNext number tci (s ∷ rest) = (s.number ≡ number) × ((is_next_tci tci s.tci ≡ true) × AreNext (number + 1) s.tci rest)
+AreNext number tci (s ∷ rest) = (s.number ≡ number)
+    × ((is_next_tci tci s.tci ≡ true) × AreNext (number + 1) s.tci rest)
 
 -- the sections of a window in order, with none missing: their numbers are 0, 1, 2 and so on
 abbrev pub AreWindow : List Section → Type 0

@@ -19,7 +19,8 @@ section_at place image = front_filled SECTION_BYTES (drop (SECTION_BYTES * place
 -- so many sections of an image, from a place on
 abbrev pub sections_from : ℕ → ℕ → List ℕ → List (List ℕ)
 sections_from zero place image = []
-sections_from (suc count) place image = section_at place image ∷ sections_from count (place + 1) image
+sections_from (suc count) place image = section_at place image
+    ∷ sections_from count (place + 1) image
 
 -- the sections of an image
 abbrev pub sections_of : List ℕ → List (List ℕ)

@@ -54,7 +54,8 @@ lines_of s = happening_text s.event s.next s.happening
 
 -- ---- the history
 
--- an entry of the history without its command, and without the notices that an audit's table follows
+-- an entry of the history without its command, and without the notices that an audit's table
+-- follows
 pub data Deed : Type 0 where
   Carried : (life : ℕ) (reply : List ℕ) (before : Database) → Deed
   Took : (packet : List ℕ) → Deed

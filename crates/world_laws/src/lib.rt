@@ -78,9 +78,9 @@ pub fn requests_follow_replies()
 
 /// The history is told of the very machine whose trace a script has. The trace is the lines of all
 /// that happens. The history has an entry for each request carried out, each snapshot, each reply
-/// taken, each copy and each table, in the same order, with its bytes, and no other entry. Each reply that the
-/// manager hands on (a line `took`) was taken right before: the history's newest entry is of the
-/// packet whose frame it is.
+/// taken, each copy and each table, in the same order, with its bytes, and no other entry. Each
+/// reply that the manager hands on (a line `took`) was taken right before: the history's newest
+/// entry is of the packet whose frame it is.
 pub fn history_is_of_the_machine()
     ensures seen { (s : Script) → trace s ≡ flat_map lines_of (all_seen s) }
     ensures entries { (s : Script)

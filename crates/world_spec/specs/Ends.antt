@@ -1,5 +1,5 @@
--- The two ends, each on or off, and what happens to them: at a submission, when a packet comes, with each second, and when the
--- power goes or comes back. None of this knows the link.
+-- The two ends, each on or off, and what happens to them: at a submission, when a packet comes,
+-- with each second, and when the power goes or comes back. None of this knows the link.
 use Rattle.std.specs.Prelude.{ℕ, ◌+◌, Bool, true, false, List, [], ◌∷◌, ◌++◌, map, reverse, Option, Some, None}
 use Rattle.std.specs.List.{flat_map}
 use Rattle.omci_types.specs.declared.Priority.{Priority}
@@ -34,8 +34,9 @@ use Rattle.manager_spec.specs.Submitting.{Submission}
 use Rattle.manager_spec.specs.Steps.{after_packet, after_tick}
 use Rattle.world_spec.specs.Happenings.{Happening, OfLane, OfArrival, OfNobody, UnitStarted, ManagerStarted, PacketCame, PacketSent, UnitCarried, UnitNoted, UnitKept, UnitDropped, UnitHeld, ImageStored, PowerCut, CommandDrawn, JobAsked, ReplyTaken, NoticeTaken, CopyTold, TableTold, ImageTold, Reported, Refused, NotEnabled}
 
--- how many lines of the script are done, how many lives the unit has had, the room of its image slots, and the ends that are on; and
--- the image slots of a unit that is off, which are those of its store while it is on
+-- how many lines of the script are done, how many lives the unit has had, the room of its image
+-- slots, and the ends that are on; and the image slots of a unit that is off, which are those of
+-- its store while it is on
 pub record Ends : Type 0 where
   pub event : ℕ
   pub lives : ℕ
@@ -140,7 +141,8 @@ result_told _ m = []
 abbrev pub report_told : Manager → Report → List Happening
 report_told m r = Reported r ∷ result_told r m
 
--- the manager may take a reply or a notice; its reports are taken out, then its packets go onto the link, and a download may have ended
+-- the manager may take a reply or a notice; its reports are taken out, then its packets go onto the
+-- link, and a download may have ended
 abbrev pub manager_did : Outcome → Ends → Step
 manager_did o e =
     record {
@@ -210,7 +212,8 @@ unit_got first bytes (Some u) e = preceded first (unit_did (onu_received false b
 abbrev pub notice_sent : Noticed → List ℕ → List Happening
 notice_sent noticed.NotAllowed packet = NotEnabled ∷ []
 notice_sent noticed.Same packet = []
-notice_sent noticed.Sent packet = PacketSent OfNobody (record { direction = Up; bytes = packet }) ∷ []
+notice_sent noticed.Sent packet = PacketSent OfNobody (record { direction = Up; bytes = packet })
+    ∷ []
 
 abbrev pub unit_noticed : Noticing → Ends → Step
 unit_noticed n e =
@@ -275,7 +278,8 @@ abbrev pub start_unit : Option Onu → Ends → Step
 start_unit None e = unit_starts PowerUp e.slots e
 start_unit (Some u) e = not_enabled e
 
--- The power of the unit goes at so many device calls of a packet that comes, and leaves the slots of that call. Nothing is answered.
+-- The power of the unit goes at so many device calls of a packet that comes, and leaves the slots
+-- of that call. Nothing is answered.
 abbrev pub cut_amid : (call : ℕ) → Pick → Deed → Onu → Ends → Step
 cut_amid call pick d u e =
     record {

@@ -1,5 +1,6 @@
--- What happens in the machine of both ends, one thing after the other. A step of the machine gives its ends and the list of
--- what happened; the link, the trace and the history are three readings of that list.
+-- What happens in the machine of both ends, one thing after the other. A step of the machine gives
+-- its ends and the list of what happened; the link, the trace and the history are three readings of
+-- that list.
 use Rattle.std.specs.Prelude.{ℕ, ◌+◌, List, [], ◌∷◌}
 use Rattle.omci_types.specs.declared.Priority.{Priority}
 use Rattle.omci_types.specs.declared.Software.{Software}
@@ -14,7 +15,8 @@ use Rattle.manager_spec.specs.declared.Report.{Report}
 use Rattle.link_spec.specs.Link.{Sent, Link, sent_on, delivered_on, emptied}
 use Rattle.link_spec.specs.Held.{Held, held_sent, held_delivered, held_emptied}
 
--- whose packet it is: of the command that is outstanding in a lane, of the command whose packet came, or of none
+-- whose packet it is: of the command that is outstanding in a lane, of the command whose packet
+-- came, or of none
 pub data Whose : Type 0 where
   OfLane : (lane : Priority) → Whose
   OfArrival : Whose
@@ -28,7 +30,8 @@ pub data Happening : Type 0 where
   PacketCame : (number : ℕ) (packet : Sent) → Happening
   -- a packet goes onto the link
   PacketSent : (whose : Whose) (packet : Sent) → Happening
-  -- in that life the unit carries out the request that came: its reply's packet, and the database before it
+  -- in that life the unit carries out the request that came: its reply's packet, and the database
+  -- before it
   UnitCarried : (life : ℕ) (reply : List ℕ) (before : Database) → Happening
   -- what else is told of the request that was carried out in that life, by that unit before it
   UnitNoted : (life : ℕ) (note : Note) (before : Onu) → Happening

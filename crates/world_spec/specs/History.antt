@@ -1,5 +1,5 @@
--- The history's reading of what happens: its commands, numbered over the whole run in the order in which the managers drew
--- them, and what became of each. The machine itself knows no such numbers.
+-- The history's reading of what happens: its commands, numbered over the whole run in the order in
+-- which the managers drew them, and what became of each. The machine itself knows no such numbers.
 use Rattle.std.specs.Prelude.{ℕ, ◌+◌, ◌==◌, Bool, true, false, List, [], ◌∷◌, ◌++◌, slice_get, Option, Some, None}
 use Rattle.omci_types.specs.declared.Priority.{Priority}
 use Rattle.omci_types.specs.declared.Priority.TheVariants.{Low, High}
@@ -12,9 +12,10 @@ use Rattle.history_spec.specs.History.{Entry, CarriedOut, TookReply, Remark, Rem
 use Rattle.world_spec.specs.Happenings.{Happening, Whose, OfLane, OfArrival, OfNobody, PacketCame, PacketSent, UnitCarried, UnitNoted, ImageStored, CommandDrawn, JobAsked, ReplyTaken, NoticeTaken, CopyTold, TableTold, ImageTold}
 use Rattle.world_spec.specs.Nodes.{Nodes, step, first_nodes}
 
--- How many commands were drawn, the command of each packet on the link (a reply has its request's), the command that each
--- lane drew last, that by which the manager's job asked last for a snapshot, the notices that were taken since its reply, the
--- packet that came last with its command, and what has happened, newest first.
+-- How many commands were drawn, the command of each packet on the link (a reply has its request's),
+-- the command that each lane drew last, that by which the manager's job asked last for a snapshot,
+-- the notices that were taken since its reply, the packet that came last with its command, and what
+-- has happened, newest first.
 pub record Told : Type 0 where
   pub drawn : ℕ
   pub names : List ℕ
@@ -66,7 +67,8 @@ with_entry entry t = record t { history = entry ∷ t.history }
 
 -- what is remarked of a request that was carried out
 abbrev pub remark_of : ℕ → ℕ → Note → Onu → Option Remark
-remark_of life command (note.Snapshot entities counter) before = Some (TookSnapshot life command before.database)
+remark_of life command (note.Snapshot entities counter) before =
+    Some (TookSnapshot life command before.database)
 remark_of life command (note.Alarms rows) before = Some (TookAlarms life command before.log.alarms)
 remark_of life command (note.Sealed slot size check) before = None
 remark_of life command (note.Committed slot) before = None
@@ -85,7 +87,10 @@ abbrev pub answers_in : Priority → Told → Told
 answers_in lane t = record t { notices = notices_if (drawn_in lane t == t.asking) t.notices }
 
 abbrev pub tell : Happening → Told → Told
-tell (PacketCame number packet) t = record t { came = name_at number t.names; packet = packet.bytes }
+tell (PacketCame number packet) t = record t {
+  came = name_at number t.names;
+  packet = packet.bytes;
+}
 tell (PacketSent whose packet) t = record t { names = t.names ++ name_of whose t ∷ [] }
 tell (UnitCarried life reply before) t = with_entry (CarriedOut life t.came reply before) t
 tell (UnitNoted life note before) t = with_remark (remark_of life t.came note before) t

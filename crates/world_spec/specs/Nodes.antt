@@ -74,13 +74,17 @@ flow (suc times) n = flow_from (oldest_fresh n) (flow times) n
 -- what a line asks for
 unfoldable pub acted : Action → Nodes → Step
 acted (Probe lane) n = submission (after_probe lane) n.ends.manager n.ends
-acted (Reset lane) n = submission (after_submit lane sync_entity request.Reset) n.ends.manager n.ends
-acted (Get lane entity mask) n = submission (after_submit lane entity (request.Get mask)) n.ends.manager n.ends
+acted (Reset lane) n = submission (after_submit lane sync_entity request.Reset) n.ends.manager
+    n.ends
+acted (Get lane entity mask) n = submission (after_submit lane entity (request.Get mask))
+    n.ends.manager n.ends
 acted (Create lane entity values) n =
     submission (after_submit lane entity (request.Create (filled 32 values))) n.ends.manager n.ends
 acted (Set lane entity mask values) n =
-    submission (after_submit lane entity (request.Set mask (filled 30 values))) n.ends.manager n.ends
-acted (Delete lane entity) n = submission (after_submit lane entity request.Delete) n.ends.manager n.ends
+    submission (after_submit lane entity (request.Set mask (filled 30 values))) n.ends.manager
+    n.ends
+acted (Delete lane entity) n = submission (after_submit lane entity request.Delete) n.ends.manager
+    n.ends
 acted (Activate lane slot) n =
     submission (after_submit lane (image_entity slot) (request.Activate 0)) n.ends.manager n.ends
 acted (Commit lane slot) n =
@@ -98,8 +102,10 @@ acted (CutIn number call pick) n = cut_delivery call pick number n
 acted (NoiseUnit bytes) n = noise Down bytes n.ends
 acted (NoiseOlt bytes) n = noise Up bytes n.ends
 acted Tick n = second n.ends
-acted (Sense entity number value) n = unit_notices (onu_sensed entity number value) n.ends.unit n.ends
-acted (Alarm entity bitmap) n = unit_notices (onu_alarmed entity (filled BITMAP_BYTES bitmap)) n.ends.unit n.ends
+acted (Sense entity number value) n = unit_notices (onu_sensed entity number value) n.ends.unit
+    n.ends
+acted (Alarm entity bitmap) n = unit_notices (onu_alarmed entity (filled BITMAP_BYTES bitmap))
+    n.ends.unit n.ends
 acted CutUnit n = cut_unit n.ends.unit n.ends
 acted CutOlt n = cut_manager n.ends.manager n.ends
 acted StartUnit n = start_unit n.ends.unit n.ends

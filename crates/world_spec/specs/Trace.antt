@@ -1,4 +1,5 @@
--- The trace of a script: a line for each effect of what happens. The packets are numbered as they go onto the link.
+-- The trace of a script: a line for each effect of what happens. The packets are numbered as they
+-- go onto the link.
 use Rattle.std.specs.Prelude.{ℕ, List, [], ◌∷◌, ◌++◌, Option, Some, None, codes}
 use Rattle.std.specs.List.{flat_map}
 use Rattle.std.specs.Int.{w16, w32, to_be_bytes}
@@ -139,15 +140,18 @@ note_text (note.Snapshot entities counter) =
     codes "snapshot " ++ decimal entities ++ codes " " ++ decimal counter
 note_text (note.Alarms rows) = codes "alarms " ++ decimal rows
 note_text (note.Sealed slot size check) =
-    codes "sealed " ++ decimal slot ++ codes " " ++ decimal size ++ codes " " ++ encode_lower (to_be_bytes w32 check)
+    codes "sealed " ++ decimal slot ++ codes " " ++ decimal size ++ codes " "
+    ++ encode_lower (to_be_bytes w32 check)
 note_text (note.Committed slot) = codes "committed " ++ decimal slot
 note_text (note.Leaving boot) = codes "leaving " ++ boot_text boot
 
 unfoldable pub effect_text : Effect → List ℕ
 effect_text (effect.UnitStarted life s) =
-    codes "unit " ++ decimal life ++ codes " " ++ decimal s.active ++ codes " " ++ decimal s.committed ++ codes " " ++ slot_text s.first ++ codes " " ++ slot_text s.second
+    codes "unit " ++ decimal life ++ codes " " ++ decimal s.active ++ codes " "
+    ++ decimal s.committed ++ codes " " ++ slot_text s.first ++ codes " " ++ slot_text s.second
 effect_text (effect.PacketSent number direction frame) =
-    codes "sent " ++ decimal number ++ codes " " ++ direction_text direction ++ codes " " ++ message_text frame
+    codes "sent " ++ decimal number ++ codes " " ++ direction_text direction ++ codes " "
+    ++ message_text frame
 effect_text (effect.Carried life) = codes "carried " ++ decimal life
 effect_text (effect.Noted what) = note_text what
 effect_text effect.Kept = codes "kept"
@@ -196,7 +200,8 @@ alarm_line event one = row_line event one.0 one.1
 -- what is seen of it, if anything, where that is the number of the next packet
 abbrev pub effect_of : ℕ → Happening → Option Effect
 effect_of next (UnitStarted life software) = Some (effect.UnitStarted life software)
-effect_of next (PacketSent whose packet) = Some (effect.PacketSent next packet.direction (frame_of packet.bytes))
+effect_of next (PacketSent whose packet) =
+    Some (effect.PacketSent next packet.direction (frame_of packet.bytes))
 effect_of next (UnitCarried life reply before) = Some (effect.Carried life)
 effect_of next (UnitNoted life note before) = Some (effect.Noted note)
 effect_of next UnitKept = Some effect.Kept
@@ -221,7 +226,8 @@ happening_text event next h = line_if event (effect_of next h)
 -- the lines of one event, whose first packet has that number
 abbrev pub lines_text : ℕ → ℕ → List Happening → List ℕ
 lines_text event next [] = []
-lines_text event next (h ∷ rest) = happening_text event next h ++ lines_text event (next_after h next) rest
+lines_text event next (h ∷ rest) = happening_text event next h
+    ++ lines_text event (next_after h next) rest
 
 -- the lines of a line of the script, from these nodes on
 abbrev pub turn_text : Nodes → Turn → List ℕ
@@ -235,4 +241,5 @@ trace_from (a ∷ rest) n = turn_text n (step a n) ++ trace_from rest (step a n)
 -- the unit's start line, which is event 0, and then the lines of each event
 unfoldable pub trace : Script → List ℕ
 trace s =
-    line_text 0 (effect.UnitStarted 1 (factory_software s.header.factory)) ++ trace_from s.actions (first_nodes s.header)
+    line_text 0 (effect.UnitStarted 1 (factory_software s.header.factory))
+    ++ trace_from s.actions (first_nodes s.header)

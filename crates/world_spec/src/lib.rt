@@ -1,4 +1,5 @@
-//! The machine of both ends over the link, its trace, and its history. Plain types and definitions alone.
+//! The machine of both ends over the link, its trace, and its history. Plain types and definitions
+//! alone.
 #![tactic(auto)]
 
 use link_spec::Direction;

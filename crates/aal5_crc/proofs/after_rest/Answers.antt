@@ -1,14 +1,18 @@
-use Rattle.std.proofs.Common.{ap, sym, ◌∙◌, List, ℕ, get_or}
-use Rattle.frame_spec.specs.Checksum.{bits_of}
+use Rattle.std.proofs.Common.{◌≡◌, ℕ, ◌+◌, ◌-◌, List, length, take, drop, ap, sym, ◌∙◌, arith}
+use Rattle.std.proofs.lemmas.List.{take_all}
+use Rattle.frame_spec.specs.Checksum.{bits_of, message_bits}
 use Rattle.aal5_crc.specs.Register.{after_bits}
-use Rattle.aal5_crc.proofs.Steps.{after_bits-none, after_bits-more}
+use Rattle.aal5_crc.proofs.Steps.{after_bits-several}
 use Rattle.aal5_crc.proofs.after_rest.Goals as goal
 
-pub loop-byte-init : goal.loop-byte-init
-loop-byte-init c = sym (after_bits-none (bits_of 32 c.args.register))
-
-pub loop-byte-preserved : goal.loop-byte-preserved
-loop-byte-preserved c =
-    c.after_byte-register.ensures.bits
-    ∙ ap (λ (l : List ℕ). after_bits l (bits_of 8 (get_or c.args.bytes.now c.loop-byte.byte-index 0))) c.loop-byte.invariant
-    ∙ sym (after_bits-more (bits_of 32 c.args.register) c.loop-byte.byte-index c.args.bytes.now c.loop-byte-test.true)
+pub returns : goal.returns
+returns c =
+    let bytes = c.args.bytes.now in
+    let left = length bytes - 4 in
+    let whole : take (4 + left) bytes ≡ bytes = take_all (4 + left) bytes (omega arith) in
+    record {
+      bits = c.after_each-2.ensures.bits
+          ∙ ap (λ (l : List ℕ). after_bits l (message_bits (take left (drop 4 bytes)))) c.after_half-register.ensures.bits
+          ∙ sym (after_bits-several (bits_of 32 c.args.register) 4 left bytes)
+          ∙ ap (λ (l : List ℕ). after_bits (bits_of 32 c.args.register) (message_bits l)) whole;
+    }

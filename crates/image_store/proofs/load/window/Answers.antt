@@ -5,30 +5,22 @@ use Rattle.store_laws.proofs.Tests.{no_download, this_download, other_download}
 use Rattle.image_store.proofs.Carrying.{let_go}
 use Rattle.image_store.proofs.load.window.Goals as goal
 
-pub returns-then-slot-target : goal.returns-then-slot-target
-returns-then-slot-target g c = record {
-  carried = λ room held one m s whole arrived bytes.
-      let l = rw c.in-Filling.is at s in
-      rw (c.in-Filling.is, this_download RefuseWindow c.args.slot m.download _ (λ x. put_deed one x) l.download_is (c.if-slot-target.true ∙ c.target.ensures.target)) (c.put.ensures.carried room held one m l arrived bytes);
-}
+pub returns-then-slot-target-clause-carried : goal.returns-then-slot-target-clause-carried
+returns-then-slot-target-clause-carried g c = λ room held one m s whole arrived bytes.
+    let l = rw c.in-Filling.is at s in
+    rw (c.in-Filling.is, this_download RefuseWindow c.args.slot m.download _ (λ x. put_deed one x) l.download_is (c.if-slot-target.true ∙ c.target.ensures.target)) (c.put.ensures.carried room held one m l arrived bytes)
 
-pub returns-else-slot-target : goal.returns-else-slot-target
-returns-else-slot-target g c = record {
-  carried = λ room held one m s whole arrived bytes.
-      let l = rw c.in-Filling.is at s in
-      rw (c.in-Filling.is, other_download RefuseWindow c.args.slot m.download _ (λ x. put_deed one x) l.download_is (λ e. c.if-slot-target.false (e ∙ sym c.target.ensures.target))) (let_go g.D.Disk.seen g.D.Disk.may_leave g.D.Disk.clock g.D.Disk.left_since g.D.Disk.rig g.D.Disk.faults g.met.D.Disk.rig_reads g.met.D.Disk.cut_counts g.met.D.Disk.only_now room c.args.active _ 3 held _ _ m c.refused.ensures.value l);
-}
+pub returns-else-slot-target-clause-carried : goal.returns-else-slot-target-clause-carried
+returns-else-slot-target-clause-carried g c = λ room held one m s whole arrived bytes.
+    let l = rw c.in-Filling.is at s in
+    rw (c.in-Filling.is, other_download RefuseWindow c.args.slot m.download _ (λ x. put_deed one x) l.download_is (λ e. c.if-slot-target.false (e ∙ sym c.target.ensures.target))) (let_go g.D.Disk.seen g.D.Disk.may_leave g.D.Disk.clock g.D.Disk.left_since g.D.Disk.rig g.D.Disk.faults g.met.D.Disk.rig_reads g.met.D.Disk.cut_counts g.met.D.Disk.only_now room c.args.active _ 3 held _ _ m c.refused.ensures.value l)
 
-pub returns-in-Whole : goal.returns-in-Whole
-returns-in-Whole g c = record {
-  carried = λ room held one m s whole arrived bytes.
-      let l = rw c.in-Whole.is at s in
-      rw (c.in-Whole.is, no_download RefuseWindow c.args.slot m.download (λ x. put_deed one x) l.1) (let_go g.D.Disk.seen g.D.Disk.may_leave g.D.Disk.clock g.D.Disk.left_since g.D.Disk.rig g.D.Disk.faults g.met.D.Disk.rig_reads g.met.D.Disk.cut_counts g.met.D.Disk.only_now room c.args.active _ 1 held _ _ m c.refused-in-Whole.ensures.value l);
-}
+pub returns-in-Whole-clause-carried : goal.returns-in-Whole-clause-carried
+returns-in-Whole-clause-carried g c = λ room held one m s whole arrived bytes.
+    let l = rw c.in-Whole.is at s in
+    rw (c.in-Whole.is, no_download RefuseWindow c.args.slot m.download (λ x. put_deed one x) l.1) (let_go g.D.Disk.seen g.D.Disk.may_leave g.D.Disk.clock g.D.Disk.left_since g.D.Disk.rig g.D.Disk.faults g.met.D.Disk.rig_reads g.met.D.Disk.cut_counts g.met.D.Disk.only_now room c.args.active _ 1 held _ _ m c.refused-in-Whole.ensures.value l)
 
-pub returns-in-Broken : goal.returns-in-Broken
-returns-in-Broken g c = record {
-  carried = λ room held one m s whole arrived bytes.
-      let b = rw c.in-Broken.is at s in
-      absurd (true≢false (sym b.0.broken_is ∙ whole));
-}
+pub returns-in-Broken-clause-carried : goal.returns-in-Broken-clause-carried
+returns-in-Broken-clause-carried g c = λ room held one m s whole arrived bytes.
+    let b = rw c.in-Broken.is at s in
+    absurd (true≢false (sym b.0.broken_is ∙ whole))

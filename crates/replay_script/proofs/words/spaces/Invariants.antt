@@ -1,7 +1,11 @@
-use Rattle.std.proofs.Common.{◌≡◌, ◌==◌, ◌≤◌, take}
+use Rattle.std.proofs.Common.{◌≡◌, ◌+◌, ◌==◌, ◌≤◌, length}
 use Rattle.std.specs.List.{count_by}
 use Rattle.replay_script.proofs.words.spaces.Given as goal
 
-abbrev pub invariant-loop-byte : goal.invariant-loop-byte
-invariant-loop-byte l =
-    (l.count ≡ count_by (λ b. b == 32) (take l.byte-index l.text)) × (l.count ≤ l.byte-index)
+abbrev pub invariant-loop-rest : goal.invariant-loop-rest
+invariant-loop-rest l =
+    (l.count + count_by (λ b. b == 32) l.rest ≡ count_by (λ b. b == 32) l.fn.text)
+    × (l.count + length l.rest ≤ length l.fn.text)
+
+abbrev pub decreases-loop-rest : goal.decreases-loop-rest
+decreases-loop-rest l = length l.rest

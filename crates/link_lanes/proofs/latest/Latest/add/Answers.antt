@@ -16,7 +16,7 @@ invariant_of-self c =
       least = c.requires.some;
       most = c.requires.most;
       size = refl;
-      cut = c.front_filled.ensures.value;
+      cut = c.front_of.ensures.value;
       place = refl;
     })
 
@@ -30,7 +30,7 @@ returns c =
             least = c.requires.some;
             most = c.requires.most;
             size = refl;
-            cut = c.front_filled.ensures.value;
+            cut = c.front_of.ensures.value;
             place = refl;
           });
     }

@@ -3,5 +3,5 @@ use Rattle.link_replay.proofs.machine.Machine.second.Goals as goal
 
 pub returns : goal.returns
 returns c = record {
-  follows = both_ticked c.args.self.now c.tick_manager.new.self c.tick_unit.new.self c.args.out.now.items c.tick_manager.new.out.items c.tick_unit.new.out.items c.in_ok-tick_manager.ensures.follows c.in_ok-tick_unit.ensures.follows;
+  follows = both_ticked c.args.self.now c.tick_manager.new.self c.tick_unit.new.self c.args.out.now c.tick_manager.new.out c.tick_unit.new.out c.in_ok-tick_manager.ensures.follows c.in_ok-tick_unit.ensures.follows;
 }

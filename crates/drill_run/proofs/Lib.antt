@@ -1,0 +1,5 @@
+pub mod Words
+pub mod Counting
+pub mod Running
+pub mod Lines
+pub mod Summing

@@ -1,0 +1,81 @@
+-- What a turn hears, and what ends it before its end.
+use Rattle.std.proofs.Common.{◌≡◌, ℕ, ◌+◌, ◌-◌, ◌≤◌, Bool, true, List, [], ◌∷◌, length, drop, take, Option, refl, sym, ◌∙◌, subst, arith, length-drop}
+use Rattle.omci_core.specs.Causes.{Rose}
+use Rattle.script_spec.specs.Script.{Action}
+use Rattle.turn_spec.specs.Arrivals.{Arrival, Came}
+use Rattle.turn_spec.specs.OltTurns.{OltState, arrived, packets_in}
+use Rattle.omci_link.specs.Arrivals.{IsFirst, left_after, arrived as answered}
+use Rattle.omci_link.specs.declared.arrival.Arrival as answer
+use Rattle.omci_link.specs.declared.arrival.Arrival.TheVariants as answers
+use Rattle.olt_turns.specs.Seat.{Seat, seat_ends, SendsFront, StopsLink, is_closed, Plays, Hears, HearsInPart, Begins}
+use Rattle.olt_turns.specs.Running.{EndsOlt}
+use Rattle.olt_turns.specs.declared.fault.OltFault.{OltFault}
+use Rattle.olt_turns.specs.declared.fault.OltFault.TheVariants as fault
+use Rattle.olt_turns.proofs.Playing.{sends_nothing_of}
+
+-- ---- what the link gives
+
+-- a packet's bytes stand at the buffer's front
+pub first_came : (a : answer.Arrival) (count : ℕ) (buffer bytes : List ℕ) (l : Option (List Arrival))
+    → IsFirst l (answered a buffer) → a ≡ answers.Packet count → bytes ≡ take count buffer → IsFirst l (Came bytes)
+first_came a count buffer bytes l first is bytes_is =
+    subst (λ xs. IsFirst l (Came xs)) (sym bytes_is) (subst (λ x. IsFirst l (answered x buffer)) is first)
+
+-- nothing was taken
+pub heard_nothing : (w : Seat) (l l' : Option (List Arrival)) (a a' : Option (List (List ℕ))) → l' ≡ l → a' ≡ a → HearsInPart w l l' a a'
+heard_nothing w l l' a a' left_is sent_is = record {
+  taken = [];
+  one = omega arith;
+  took = left_is;
+  sent = subst (λ b. SendsFront [] a b) (sym sent_is) (sends_nothing_of [] a);
+}
+
+-- a fault broke off what came of it
+pub heard_in_part : (w : Seat) (arrival : Arrival) (l l' l'' : Option (List Arrival)) (a a' a'' : Option (List (List ℕ)))
+    → IsFirst l arrival → l' ≡ left_after l → l'' ≡ l' → a' ≡ a
+    → SendsFront (packets_in (arrived arrival (seat_ends w)).happenings) a' a'' → HearsInPart w l l'' a a''
+heard_in_part w arrival l l' l'' a a' a'' first left_is same sent_is part = record {
+  taken = arrival ∷ [];
+  one = omega arith;
+  took = (first, same ∙ left_is);
+  sent = subst (λ b. SendsFront (packets_in (arrived arrival (seat_ends w)).happenings) b a'') sent_is part;
+}
+
+-- its step was made
+pub heard_whole : (w new : Seat) (before after : List ℕ) (arrival : Arrival) (l l' l'' : Option (List Arrival)) (a a' a'' : Option (List (List ℕ)))
+    → IsFirst l arrival → l' ≡ left_after l → l'' ≡ l' → a' ≡ a
+    → Plays (arrived arrival (seat_ends w)) w new before after a' a'' → Hears w new before after l l'' a a'' (is_closed arrival)
+heard_whole w new before after arrival l l' l'' a a' a'' first left_is same sent_is plays = record {
+  arrival = arrival;
+  first = first;
+  left = same ∙ left_is;
+  plays = subst (λ b. Plays (arrived arrival (seat_ends w)) w new before after b a'') sent_is plays;
+  closed_is = refl;
+}
+
+-- ---- what stands before a turn
+
+pub begun_so : (begun is : Bool) (turns : ℕ) (st now : OltState) (before after : List ℕ) (a a' : Option (List (List ℕ)))
+    → begun ≡ is → Begins begun turns st now before after a a' → Begins is turns st now before after a a'
+begun_so begun is turns st now before after a a' same begins =
+    subst (λ b. Begins b turns st now before after a a') same begins
+
+-- what the link gives doesn't begin a turn
+pub grown : (turns : ℕ) (w v new : Seat) (begun : Bool) → begun ≡ true
+    → (begun ≡ true → (v.turn ≡ w.turn + 1) × (v.turn ≤ turns)) → new.turn ≡ v.turn
+    → (new.turn ≡ w.turn + 1) × (new.turn ≤ turns)
+grown turns w v new begun is grows same =
+    let more = grows is in (same ∙ more.0, omega (arith, same, more.1))
+
+-- ---- what ends a run
+
+-- a call of the link alone leaves the sink as it was
+pub stops_ends : (e : OltFault) (l l' l'' s s' : ℕ) → l' ≡ l → StopsLink e l' l'' → s' ≡ s → EndsOlt e l l'' s s'
+stops_ends fault.NoMemory l l' l'' s s' kept stops same = (stops ∙ kept, same)
+stops_ends fault.Link l l' l'' s s' kept stops same = (subst (λ n. Rose n l'') kept stops, same)
+stops_ends fault.Write l l' l'' s s' kept stops same = absurd stops
+
+-- ---- the last line
+
+pub orders_left : (actions : List Action) (given count : ℕ) → count ≡ length actions - given → count ≡ length (drop given actions)
+orders_left actions given count is = is ∙ sym (length-drop given actions)

@@ -1,0 +1,10 @@
+pub mod Answering
+pub mod Beginning
+pub mod Causing
+pub mod Counting
+pub mod Disks
+pub mod Ends
+pub mod Joining
+pub mod Showing
+pub mod Turning
+pub mod Whole
