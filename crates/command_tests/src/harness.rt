@@ -1,7 +1,7 @@
 //! The top call over memory.
 
-use omci_core::{MemSink, MemSource, NoMemory, Words};
-use omci_link::MemLink;
+use omci_core::{MAX_PACKET_BYTES, MemSink, MemSource, NoMemory, Packet, Words};
+use omci_link::{MemArrival, MemLink};
 use omci_top::{Status, omci};
 use slot_disk::MemDisk;
 use std::alloc::Global;
@@ -36,6 +36,23 @@ pub fn says(
     let mut sink = MemSink::new(alloc, 1000, Vec::new(alloc))?;
     let ended = status_of(alloc, words, &mut source, &mut sink)?;
     Ok(ended == status && sink.bytes() == output.as_bytes())
+}
+
+/// The get by which a manager probes the low lane, with number 1.
+pub const PROBE: &str =
+    "0001490a0002000080000000000000000000000000000000000000000000000000000000000000000000002886d7d0d6";
+
+/// The reply to it.
+pub const PROVED: &str =
+    "0001290a000200000080000000000000000000000000000000000000000000000000000000000000000000285b7c4982";
+
+/// What a link gives: these bytes as a packet.
+pub fn arrival_of(bytes: &[u8]) -> MemArrival {
+    let mut packet = Packet::new();
+    if bytes.len() <= MAX_PACKET_BYTES {
+        packet.put(bytes);
+    }
+    MemArrival::Packet(packet)
 }
 
 /// The bytes of frames, one after the other, that are given as hex digits.

@@ -15,4 +15,6 @@ mod scripts;
 #[cfg(test)]
 mod streams;
 #[cfg(test)]
+mod units;
+#[cfg(test)]
 mod words;

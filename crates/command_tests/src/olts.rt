@@ -1,16 +1,12 @@
 //! The manager alone: its orders, what its link gives, and how its run ends.
 
-use crate::harness::bytes_of;
-use omci_core::{MAX_PACKET_BYTES, MemSink, MemSource, Packet, Words};
+use crate::harness::{PROVED, arrival_of, bytes_of};
+use omci_core::{MemSink, MemSource, Words};
 use omci_link::{MemArrival, MemLink};
 use omci_top::{Status, omci};
 use slot_disk::MemDisk;
 use std::alloc::Global;
 use std::test::Fail;
-
-/// The reply to a probe in the low lane under number 1.
-const PROVED: &str =
-    "0001290a000200000080000000000000000000000000000000000000000000000000000000000000000000285b7c4982";
 
 /// A run over these orders and a link that gives the reply, or a quiet second, and then its end:
 /// which call of the link fails, how the run ends, and what is written.
@@ -68,12 +64,7 @@ const ROWS: [Row; 5] = [
 fn link_of(alloc: Global, row: &Row) -> Result<MemLink, Fail> {
     let mut arrivals = Vec::new(alloc);
     if row.replies {
-        let bytes = bytes_of(alloc, &[PROVED])?;
-        let mut packet = Packet::new();
-        if bytes.len() <= MAX_PACKET_BYTES {
-            packet.put(&bytes);
-        }
-        arrivals.push(MemArrival::Packet(packet))?;
+        arrivals.push(arrival_of(&bytes_of(alloc, &[PROVED])?))?;
     } else {
         arrivals.push(MemArrival::Quiet)?;
     }
