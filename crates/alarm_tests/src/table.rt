@@ -1,5 +1,6 @@
 //! The manager's table: the answers to notices in their order, and audits. The tests call the table
-//! by functions that promise nothing, so that the proof of a test doesn't carry what each call says.
+//! by functions that promise nothing, so that the proof of a test doesn't carry what each call
+//! says.
 
 use alarm_log::{AlarmLog, AlarmTable, NoMemory, RowFault, TakenAlarm};
 use omci_types::EntityId;

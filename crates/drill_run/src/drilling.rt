@@ -5,7 +5,8 @@ ghost use Rattle.std.specs.Io.KnownBytes.{Appends};
 ghost use Rattle.script_spec.specs.Script.{Action};
 ghost use Rattle.world_spec.specs.Nodes.{first_nodes};
 ghost use Rattle.link_replay.specs.Seen.{WorldStands};
-ghost use Rattle.trace_lines.specs.Writing.{WritesFront, EndsRun};
+ghost use Rattle.whole_writes.specs.Writing.{WritesFront};
+ghost use Rattle.trace_lines.specs.Writing.{EndsRun};
 ghost use Rattle.drill_spec.specs.declared.TheConstants.{STEPS};
 ghost use Rattle.drill_spec.specs.Drill.{drill_header, state_after, step_lines, lines_after, lines_until};
 ghost use Rattle.drill_spec.specs.Summary.{number_text, counts_text, drill_nodes, drill_summary};
@@ -20,7 +21,8 @@ use link_replay::World;
 use omci_contents::{push_bytes, push_number};
 use omci_core::{NoMemory, Sink};
 use std::alloc::Global;
-use trace_lines::{RunFault, write_all};
+use trace_lines::RunFault;
+use whole_writes::write_all;
 
 // Appends a number after a word.
 fn push_number_after(out: &mut Vec<u8>, word: &[u8], number: u64) -> Result<(), NoMemory>

@@ -103,7 +103,9 @@ fn numbers_are_those_of_the_trace(rt: HostRuntime) -> Result<(), Fail> {
     assert_eq!(rt; line.as_slice(), counted(rt.alloc(), 1)?.as_slice());
     assert_eq!(rt;
         line.as_slice(),
-        b"drill 1 events 9365 sent 55184 carried 27431 kept 8 took 2882 synced 236 refused 682\n".as_slice()
+        b"drill 1 events 9365 sent 55184 carried 27431 kept 8 \
+            took 2882 synced 236 refused 682\n"
+            .as_slice()
     );
     Ok(())
 }

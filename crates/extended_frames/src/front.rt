@@ -112,7 +112,8 @@ fn long_message_fault(bytes: &[u8]) -> Option<LongFault>
 #[tactic(auto, unfolding(frame_spec::specs::Baseline::frame_of, message_spec::specs::Reading::message_of))]
 fn baseline_message_fault(bytes: &[u8]) -> Option<LongFault>
     requires { FRAME_BYTES ≤ length bytes.now }
-    ensures value { result ≡ option_map as_long_fault (result_err (message_of (frame_of bytes.now))) }
+    ensures value { result ≡
+        option_map as_long_fault (result_err (message_of (frame_of bytes.now))) }
 {
     kind_at(bytes[2]).err()
 }

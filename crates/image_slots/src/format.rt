@@ -10,6 +10,7 @@ ghost use Rattle.image_slots.specs.Formats.{FormattedBody, FormattedDisk, Format
 ghost use Rattle.image_slots.specs.Formats.{FormatLeaves, body_calls, layout_calls, format_calls};
 ghost use Rattle.image_slots.specs.Formats.{format_disk, format_faults, formatted_slots};
 ghost use Rattle.image_slots.specs.Formats.{formatted_length};
+ghost use Rattle.slot_spec.specs.declared.TheConstants.{MAX_ROOM};
 
 use crate::fields::{entry_bytes, version_after};
 use crate::slots::Slots;
@@ -38,7 +39,7 @@ impl<D: Disk> Slots<D> {
     /// taken away first, with a sync, and stands again last.
     pub fn format(disk: D, room: u32, image: &[u8]) -> Result<Slots<D>, FormatRefusal<D>>
         requires some { 1 ≤ room }
-        requires small { room ≤ 16777216 }
+        requires small { room ≤ MAX_ROOM }
         ensures settled { IsSome (D.seen disk)
             → IfOk result (λ slots. Settled D.seen D.may_leave slots.disk slots.header
             (formatted_slots image.now)) }
@@ -99,7 +100,7 @@ fn lay_out<D: Disk>(
     entry: &[u8; ENTRY_BYTES],
     image: &[u8],
 ) -> Result<(), Failed>
-    requires small { room ≤ 16777216 }
+    requires small { room ≤ MAX_ROOM }
     requires some { 1 ≤ room }
     requires content { 1 ≤ length image.now }
     requires fits { length image.now ≤ room }
@@ -124,7 +125,7 @@ fn write_body<D: Disk>(
     entry: &[u8; ENTRY_BYTES],
     image: &[u8],
 ) -> Result<(), Failed>
-    requires small { room ≤ 16777216 }
+    requires small { room ≤ MAX_ROOM }
     requires some { 1 ≤ room }
     requires content { 1 ≤ length image.now }
     requires fits { length image.now ≤ room }

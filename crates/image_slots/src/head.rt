@@ -24,7 +24,7 @@ pub fn number(bytes: &[u8], place: usize) -> u32
 // Whether a disk of this length is one of slots.
 #[tactic(auto, unfolding(slot_spec::specs::Header::has_unit))]
 pub fn is_unit(head: &[u8], size: u64) -> bool
-    requires whole { 4096 ≤ length head.now }
+    requires whole { HEADER_BYTES ≤ length head.now }
     ensures unit { result ≡ has_unit size head.now }
 {
     let room = number(head, ROOM_PLACE as usize);
@@ -37,7 +37,7 @@ pub fn is_unit(head: &[u8], size: u64) -> bool
 // What the head says of both slots.
 #[tactic(auto, unfolding(slot_spec::specs::Header::disk_header_in))]
 pub fn disk_header(head: &[u8]) -> DiskHeader
-    requires whole { 4096 ≤ length head.now }
+    requires whole { HEADER_BYTES ≤ length head.now }
     ensures header { result ≡ disk_header_in head.now }
     ensures slot { result.committed < 2 }
 {
@@ -52,7 +52,7 @@ pub fn disk_header(head: &[u8]) -> DiskHeader
 
 // What it says of slot 0.
 fn first_header(head: &[u8], room: u32) -> SlotHeader
-    requires whole { 4096 ≤ length head.now }
+    requires whole { HEADER_BYTES ≤ length head.now }
     ensures header { result ≡ slot_header_in room 0 head.now }
 {
     header_at(head, room, 0, FIRST_GATE as usize, FIRST_ENTRY as usize)
@@ -60,7 +60,7 @@ fn first_header(head: &[u8], room: u32) -> SlotHeader
 
 // What it says of slot 1.
 fn second_header(head: &[u8], room: u32) -> SlotHeader
-    requires whole { 4096 ≤ length head.now }
+    requires whole { HEADER_BYTES ≤ length head.now }
     ensures header { result ≡ slot_header_in room 1 head.now }
 {
     header_at(head, room, 1, SECOND_GATE as usize, SECOND_ENTRY as usize)
@@ -69,7 +69,7 @@ fn second_header(head: &[u8], room: u32) -> SlotHeader
 // What it says of a slot whose gate and entry stand at these places.
 #[tactic(auto, unfolding(slot_spec::specs::Header::slot_header_in))]
 fn header_at(head: &[u8], room: u32, slot: u8, gate_at: usize, entry_at: usize) -> SlotHeader
-    requires whole { 4096 ≤ length head.now }
+    requires whole { HEADER_BYTES ≤ length head.now }
     requires gate { gate_at ≡ gate_place slot }
     requires entry { entry_at ≡ entry_place slot }
     requires low { entry_at < 4000 }

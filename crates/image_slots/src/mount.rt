@@ -70,10 +70,10 @@ impl<D: Disk> Slots<D> {
         ensures cause { mount_faults result ≡ true
             → Rose (D.faults disk) (D.faults (mount_disk result)) }
         ensures kept { mount_faults result ≡ false → D.faults (mount_disk result) ≡ D.faults disk }
-        ensures short { size < 4096 → result ≡ Err (NoUnit disk size (replicate 8 0) 0) }
+        ensures short { size < HEADER_BYTES → result ≡ Err (NoUnit disk size (replicate 8 0) 0) }
         ensures found { (bytes : List ℕ) → D.seen disk ≡ Some bytes
             → IfOk result (MountFinds size bytes) }
-        ensures refused { (bytes : List ℕ) → D.seen disk ≡ Some bytes → 4096 ≤ size
+        ensures refused { (bytes : List ℕ) → D.seen disk ≡ Some bytes → HEADER_BYTES ≤ size
             → IfErr result (MountRefused size bytes) }
     {
         if size < HEADER_BYTES {
@@ -96,15 +96,15 @@ impl<D: Disk> Slots<D> {
 // Settles a write that was pending, and reads the disk's first bytes.
 #[tactic(auto, unfolding(slot_spec::specs::Rig::after_calls, slot_spec::specs::Rig::calls_fail))]
 fn settle<D: Disk>(disk: &mut D, head: &mut [u8]) -> Result<(), Failed>
-    requires whole { length head.old ≡ 4096 }
+    requires whole { length head.old ≡ HEADER_BYTES }
     ensures front { (bytes : List ℕ) → D.seen disk.old ≡ Some bytes
-        → OnOk result (head.new ≡ take 4096 bytes) }
+        → OnOk result (head.new ≡ take HEADER_BYTES bytes) }
     ensures only { (bytes : List ℕ) → D.seen disk.old ≡ Some bytes
         → OnOk result ((image : List ℕ) → D.may_leave disk.new image → image ≡ bytes) }
     ensures seen { D.seen disk.new ≡ D.seen disk.old }
     ensures moments { Moments D.clock D.left_since D.may_leave disk.old disk.new
         (D.may_leave disk.old) }
-    ensures rig { Makes (Sync ∷ Read 0 4096 ∷ []) (D.rig disk.old) (D.rig disk.new)
+    ensures rig { Makes (Sync ∷ Read 0 HEADER_BYTES ∷ []) (D.rig disk.old) (D.rig disk.new)
         (is_err result) }
     ensures cause { HasCause (D.faults disk.old) (D.faults disk.new) result }
 {
@@ -115,7 +115,7 @@ fn settle<D: Disk>(disk: &mut D, head: &mut [u8]) -> Result<(), Failed>
 
 // The slots of a disk whose first bytes these are.
 fn slots_of<D: Disk>(disk: D, size: u64, head: &[u8]) -> Result<Slots<D>, MountRefusal<D>>
-    requires whole { 4096 ≤ length head.now }
+    requires whole { HEADER_BYTES ≤ length head.now }
     ensures disk { mount_disk result ≡ disk }
     ensures fault { mount_faults result ≡ false }
     ensures found { IfOk result (MountFinds size head.now) }

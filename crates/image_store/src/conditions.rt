@@ -5,8 +5,8 @@ ghost use Rattle.store_spec.specs.Deeds.{window_code};
 
 use entity_classes::class;
 use omci_types::{Code, EntityId};
-use store_spec::{IMAGE_CLASS, IMAGES, MOST_TARGETS};
-use window_spec::{Arrived, SECTION_BYTES};
+use store_spec::{IMAGES, MOST_TARGETS};
+use window_spec::{Arrived, IMAGE_CLASS, SECTION_BYTES};
 
 /// The slot of a request for this entity, where it is a software image and the store isn't broken.
 #[tactic(auto, unfolding(store_spec::specs::Deeds::image_code))]

@@ -18,6 +18,7 @@ ghost use Rattle.image_store.specs.declared.state.State.TheVariants.{Whole};
 ghost use Rattle.image_store.specs.Carries.{Caused, StoreCarried};
 ghost use Rattle.image_store.specs.Counts.{StoreCounts, store_faults};
 ghost use Rattle.image_store.specs.Starts.{Started, IsUnit, refusal_disk, refusal_faults};
+ghost use Rattle.slot_spec.specs.declared.TheConstants.{HEADER_BYTES};
 
 use crate::coming::Coming;
 use crate::requests::carry;
@@ -71,10 +72,10 @@ impl<D: Disk> Store<D> {
         ensures length { (bytes : List ℕ) → D.seen disk ≡ Some bytes
             → IfOk result (λ store. (state : State D) → store.state ≡ Some state
             → HasLength D.may_leave (length bytes) (state_disk state)) }
-        ensures short { size < 4096 → result ≡ Err (NoUnit disk size (replicate 8 0) 0) }
+        ensures short { size < HEADER_BYTES → result ≡ Err (NoUnit disk size (replicate 8 0) 0) }
         ensures found { (bytes : List ℕ) → D.seen disk ≡ Some bytes
             → OnOk result (IsUnit size bytes) }
-        ensures refused { (bytes : List ℕ) → D.seen disk ≡ Some bytes → 4096 ≤ size
+        ensures refused { (bytes : List ℕ) → D.seen disk ≡ Some bytes → HEADER_BYTES ≤ size
             → IfErr result (MountRefused size bytes) }
         ensures count { MatchResult result
             (λ store. store_faults D.faults store ≡ D.faults disk)

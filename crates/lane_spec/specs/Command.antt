@@ -8,6 +8,7 @@ use Rattle.message_spec.specs.declared.Request.{Request}
 use Rattle.message_spec.specs.declared.Request.TheVariants as request
 use Rattle.message_spec.specs.Reading.{plain}
 use Rattle.frame_spec.specs.Baseline.{spelling}
+use Rattle.class_spec.specs.declared.TheConstants.{ONU_DATA}
 use Rattle.lane_spec.specs.declared.Purpose.{Purpose}
 use Rattle.lane_spec.specs.declared.Purpose.TheVariants as purpose
 
@@ -22,7 +23,7 @@ pub record Command : Type 0 where
 
 -- ONU data, and the mask of its attribute 1, which is MIB data sync
 abbrev pub sync_entity : EntityId
-sync_entity = record { class = 2; instance = 0 }
+sync_entity = ONU_DATA
 
 abbrev pub sync_request : Request
 sync_request = request.Get 0x8000

@@ -11,8 +11,8 @@ use Rattle.world_spec.specs.Nodes.{acted}
 use Rattle.replay_script.specs.Events.{action_of}
 use Rattle.replay_script.specs.declared.script.Event.{Event}
 use Rattle.replay_script.specs.declared.script.Event.TheVariants as event
-use Rattle.link_replay.specs.declared.asked.Asked.{Asked}
-use Rattle.link_replay.specs.Seen.{asked_by}
+use Rattle.manager_orders.specs.declared.asked.Asked.{Asked}
+use Rattle.manager_orders.specs.Asking.{asked_by}
 
 abbrev submitted : Asked → Ends → Step
 submitted q e = submission (after_submit q.lane q.entity q.request) e.manager e

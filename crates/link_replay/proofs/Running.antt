@@ -9,7 +9,8 @@ use Rattle.world_spec.specs.Nodes.{Nodes, step, first_nodes, nodes_after}
 use Rattle.world_spec.specs.Trace.{turn_text, trace_from, trace}
 use Rattle.link_replay.specs.Seen.{State, Stands, WorldStands, life_text}
 use Rattle.link_replay.proofs.Flows.{step_event}
-use Rattle.trace_lines.specs.Writing.{WritesSome, WritesFront}
+use Rattle.whole_writes.specs.Writing.{WritesFront}
+use Rattle.trace_lines.specs.Writing.{WritesSome}
 
 -- the events from a place on, where one is there
 drop_at : (actions : List Action) (place : ℕ) (a : Action) → slice_get actions place ≡ Some a → drop place actions ≡ a ∷ drop (place + 1) actions

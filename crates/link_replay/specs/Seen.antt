@@ -1,10 +1,8 @@
 -- What callers see of a world, and the nodes that it stands for. And what a step of the ends makes
 -- of it and of a text to which its lines are added.
-use Rattle.std.specs.Prelude.{◌≡◌, ℕ, ◌+◌, ◌*◌, Bool, true, false, List, [], ◌∷◌, ◌++◌, length, Option, Some, None}
+use Rattle.std.specs.Prelude.{◌≡◌, ℕ, ◌+◌, ◌*◌, Bool, false, List, [], ◌∷◌, ◌++◌, length, Option, Some, None}
 use Rattle.omci_types.specs.declared.Boot.{Boot}
-use Rattle.message_spec.specs.declared.Request.TheVariants as request
 use Rattle.frame_spec.specs.Baseline.{frame_of}
-use Rattle.frame_spec.specs.Widths.{filled}
 use Rattle.slot_spec.specs.declared.TheConstants.{HEADER_BYTES}
 use Rattle.slot_spec.specs.declared.Trap.TheVariants.{Clear}
 use Rattle.slot_spec.specs.Crash.{HasLength}
@@ -14,28 +12,24 @@ use Rattle.slot_disk.specs.Memory.{MemState, MayLeave}
 use Rattle.link_spec.specs.declared.Direction.TheVariants.{Down, Up}
 use Rattle.link_spec.specs.Link.{Sent, is_down, empty_link}
 use Rattle.link_spec.specs.Held.{Held, held_of, held_sent}
-use Rattle.lane_spec.specs.Command.{sync_entity}
 use Rattle.upload_spec.specs.Pieces.{Copy}
 use Rattle.alarm_spec.specs.Alarms.{Alarms}
 use Rattle.store_spec.specs.State.{software_of}
-use Rattle.script_spec.specs.Script.{Header, Action, Reset, Get, Create, Set, Delete, Activate, Commit, Reboot}
+use Rattle.script_spec.specs.Script.{Header}
 use Rattle.unit_spec.specs.declared.Did.{Did}
 use Rattle.unit_spec.specs.declared.Did.TheVariants as did
 use Rattle.unit_spec.specs.declared.Note.{Note}
-use Rattle.unit_spec.specs.declared.TheConstants.{ONU_G}
 use Rattle.unit_spec.specs.Onu.{Onu, onu_started}
 use Rattle.image_store.specs.declared.state.State.{State as Form}
 use Rattle.image_store.specs.Stands.{state_disk}
 use Rattle.onu_agent.specs.State.{State as Agent, AgentStands}
 use Rattle.manager_spec.specs.declared.Report.{Report}
 use Rattle.manager_spec.specs.Manager.{Manager, manager_started}
-use Rattle.manager_spec.specs.Upgrade.{image_entity}
 use Rattle.world_spec.specs.declared.Effect.TheVariants as effect
 use Rattle.world_spec.specs.Happenings.{held_read}
 use Rattle.world_spec.specs.Ends.{Ends, Step}
 use Rattle.world_spec.specs.Nodes.{Nodes}
 use Rattle.world_spec.specs.Trace.{line_text, lines_text}
-use Rattle.link_replay.specs.declared.asked.Asked.{Asked}
 
 -- how many lines are done, how many lives the unit has had, how many bytes its disk has, its agent,
 -- and its disk while it is off; the manager; and what is held of the link
@@ -166,27 +160,6 @@ followed s w text =
 abbrev pub life_text : (event lives : ℕ) → Option Onu → List ℕ
 life_text event lives None = []
 life_text event lives (Some u) = line_text event (effect.UnitStarted lives (software_of u.store))
-
--- the request that a line submits
-abbrev pub asked_by : Action → Option Asked
-asked_by (Reset lane) = Some (record { lane = lane; entity = sync_entity; request = request.Reset })
-asked_by (Get lane entity mask) =
-    Some (record { lane = lane; entity = entity; request = request.Get mask })
-asked_by (Create lane entity values) =
-    Some (record { lane = lane; entity = entity; request = request.Create (filled 32 values) })
-asked_by (Set lane entity mask values) =
-    Some (record { lane = lane; entity = entity; request = request.Set mask (filled 30 values) })
-asked_by (Delete lane entity) =
-    Some (record { lane = lane; entity = entity; request = request.Delete })
-asked_by (Activate lane slot) =
-    Some (record { lane = lane; entity = image_entity slot; request = request.Activate 0 })
-asked_by (Commit lane slot) = Some (record {
-  lane = lane;
-  entity = image_entity slot;
-  request = request.Commit;
-})
-asked_by (Reboot lane) = Some (record { lane = lane; entity = ONU_G; request = request.Reboot 0 })
-asked_by _ = None
 
 -- whether a packet goes to the unit
 abbrev pub goes_down : Option Sent → Bool

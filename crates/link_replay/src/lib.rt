@@ -2,7 +2,6 @@
 //! appends the lines of the trace.
 #![tactic(auto)]
 
-mod asked;
 mod delivering;
 mod machine;
 mod unit;

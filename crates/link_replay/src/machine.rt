@@ -12,10 +12,11 @@ ghost use Rattle.world_spec.specs.Trace.{line_text};
 ghost use Rattle.olt_manager.specs.State.{AreFrames};
 ghost use Rattle.link_replay.specs.Seen.{EndsStand, Follows, copy_in, alarms_in, reports_in, without_reports, with_downs, downs_text};
 ghost use Rattle.trace_lines.specs.Reports.{reports_text};
+ghost use Rattle.frame_spec.specs.declared.TheConstants.{FRAME_BYTES};
 
-use crate::asked::Asked;
 use link_lanes::Lanes;
 use link_spec::Direction;
+use manager_orders::Asked;
 use manager_spec::Refusal;
 use olt_manager::{Image, Manager};
 use omci_core::{NoMemory, Packet, Packets, Priority};
@@ -31,6 +32,8 @@ use world_spec::Effect;
 /// long enough to come there.
 const MOST_PACKETS: u64 = 1 << 62;
 
+/// Both ends, each on or off, and the link between them, as the events of a script leave them. A
+/// `World` holds it, and each of its events changes it.
 #[derive(Drop)]
 pub struct Machine {
     pub alloc: Global,
@@ -113,7 +116,7 @@ impl Machine {
         packet: &Packet,
         out: &mut Lines,
     ) -> Result<(), NoMemory>
-        requires whole { length packet.now ≡ 48 }
+        requires whole { length packet.now ≡ FRAME_BYTES }
         ensures machine { OnOk result (self.new ≡ record self.old {
           held = held_sent (record { direction = direction; bytes = packet.now }) self.old.held;
         }) }

@@ -18,6 +18,7 @@ ghost use Rattle.world_spec.specs.Trace.{lines_text};
 ghost use Rattle.replay_script.specs.Events.{header_of};
 ghost use Rattle.tci_spec.specs.Tci.{IsNumber};
 ghost use Rattle.link_replay.specs.Seen.{Stands, EndsStand, Follows, OffStands, unstarted, Woken, DiskStands, disk_bytes, life_text, did_text, did_held};
+ghost use Rattle.frame_spec.specs.declared.TheConstants.{FRAME_BYTES};
 
 use crate::machine::{Machine, Outbox};
 use alarm_spec::BITMAP_BYTES;
@@ -150,7 +151,7 @@ impl Machine {
 
     /// Tells what the unit did with a packet: its reply goes up.
     fn tell_did(&mut self, did: Did, reply: &Packet, out: &mut Lines) -> Result<(), NoMemory>
-        requires whole { did ≢ done.Dropped → did ≢ done.Held → length reply.now ≡ 48 }
+        requires whole { did ≢ done.Dropped → did ≢ done.Held → length reply.now ≡ FRAME_BYTES }
         ensures machine { OnOk result
             (self.new ≡ record self.old { held = did_held did reply.now self.old.held }) }
         ensures lines { OnOk result (out.new ≡ out.old
@@ -199,7 +200,7 @@ impl Machine {
         packet: &Packet,
         out: &mut Lines,
     ) -> Result<(), NoMemory>
-        requires whole { noticed ≡ Sent → length packet.now ≡ 48 }
+        requires whole { noticed ≡ Sent → length packet.now ≡ FRAME_BYTES }
         ensures machine { OnOk result (self.new ≡ record self.old {
           held = held_read (notice_sent noticed packet.now) self.old.held;
         }) }

@@ -8,19 +8,21 @@ ghost use Rattle.link_spec.specs.Held.{held_of};
 ghost use Rattle.world_spec.specs.Ends.{Ends};
 ghost use Rattle.world_spec.specs.Nodes.{Nodes, first_nodes, acted, step, nodes_after};
 ghost use Rattle.world_spec.specs.Trace.{turn_text, trace};
-ghost use Rattle.trace_lines.specs.Writing.{WritesSome, WritesFront, EndsRun};
+ghost use Rattle.whole_writes.specs.Writing.{WritesFront};
+ghost use Rattle.trace_lines.specs.Writing.{WritesSome, EndsRun};
 ghost use Rattle.replay_script.specs.Events.{action_of, header_of};
 ghost use Rattle.link_replay.specs.Seen.{Stands, WorldStands, EndsStand, Follows, life_text};
-ghost use Rattle.link_replay.specs.Seen.{asked_by as asked_of};
+ghost use Rattle.manager_orders.specs.Asking.{asked_by as asked_of};
 
-use crate::asked::asked_by;
 use crate::machine::{Machine, Order, Outbox};
 use link_spec::Direction;
+use manager_orders::asked_by;
 use omci_core::{NoMemory, Sink, filled};
 use replay_script::{Event, Header, Script};
 use std::alloc::Global;
 use std::marker::Model;
-use trace_lines::{Lines, RunFault, write_all, write_piece};
+use trace_lines::{Lines, RunFault, write_piece};
+use whole_writes::write_all;
 
 /// Both ends over a simulated link. [`step`](World::step) and [`run`](World::run) alone change it.
 /// Where memory runs out in one of them, the world is spent: each later call of them answers

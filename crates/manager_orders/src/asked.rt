@@ -2,22 +2,16 @@
 
 ghost use Rattle.std.specs.Prelude.{◌≡◌, IfSome};
 ghost use Rattle.message_spec.specs.Reading.{RequestWindow};
-ghost use Rattle.manager_spec.specs.Upgrade.{image_entity};
 ghost use Rattle.script_spec.specs.Script.{IsAction};
 ghost use Rattle.replay_script.specs.Events.{action_of};
 ghost use Rattle.manager_orders.specs.Asking.{asked_by};
 
-use manager_spec::IMAGE_CLASS;
+use class_spec::ONU_DATA;
+use olt_manager::image_entity;
 use omci_contents::Request;
 use omci_core::{EntityId, Priority, filled};
 use replay_script::Event;
 use unit_spec::ONU_G;
-
-/// The entity that a reset names.
-const ONU_DATA: EntityId = EntityId {
-    class: 2,
-    instance: 0,
-};
 
 /// A request for an entity, over a lane.
 #[derive(Clone, Copy)]
@@ -25,16 +19,6 @@ pub struct Asked {
     pub lane: Priority,
     pub entity: EntityId,
     pub request: Request,
-}
-
-/// The software image of a slot.
-fn image_entity(slot: u8) -> EntityId
-    ensures value { result ≡ image_entity slot }
-{
-    EntityId {
-        class: IMAGE_CLASS,
-        instance: u16::from(slot),
-    }
 }
 
 /// A request for an entity, over that lane.

@@ -7,7 +7,8 @@ use Rattle.message_spec.specs.declared.Request.{Request}
 use Rattle.message_spec.specs.declared.Request.TheVariants as request
 use Rattle.lane_spec.specs.Command.{Command, job_command, window_command}
 use Rattle.window_spec.specs.Outgoing.{Outgoing, new_outgoing, sections_from, section_at, window_count, is_last, after_window}
-use Rattle.manager_spec.specs.declared.TheConstants.{IMAGE_CLASS, MOST_RESENT, MOST_BUSY}
+use Rattle.window_spec.specs.declared.TheConstants.{IMAGE_CLASS}
+use Rattle.manager_spec.specs.declared.TheConstants.{MOST_RESENT, MOST_BUSY}
 use Rattle.manager_spec.specs.declared.ImageReason.{ImageReason}
 use Rattle.manager_spec.specs.declared.ImageReason.TheVariants as reason
 use Rattle.manager_spec.specs.declared.Report.TheVariants as report

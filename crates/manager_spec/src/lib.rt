@@ -4,9 +4,6 @@
 
 use omci_types::{Code, EntityId, Frame, Priority};
 
-/// The class of software images: the instance is the slot.
-pub const IMAGE_CLASS: u16 = 7;
-
 /// A window that was answered by another code than success is sent anew so many times.
 pub const MOST_RESENT: u8 = 8;
 

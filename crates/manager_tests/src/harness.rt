@@ -82,6 +82,7 @@ pub fn counter_answer(code: Code, counter: u8) -> Response {
     }
 }
 
+/// A manager whose unit is played by hand. Each call of a test changes it.
 #[derive(Drop)]
 pub struct Harness {
     pub manager: Manager,

@@ -18,3 +18,4 @@ pub use mib_spec::Sensed;
 pub use omci_attributes::Mask;
 pub use omci_core::NoMemory;
 pub use requests::is_counter_set;
+pub use search::place_between;

@@ -11,7 +11,7 @@ ghost use Rattle.mib_upload.specs.Parts.{part_at};
 
 use crate::part::{Part, ROOM};
 use class_spec::ONU_DATA;
-use mib_store::NoMemory;
+use mib_store::{NoMemory, place_between};
 use omci_attributes::Mask;
 use omci_types::EntityId;
 use placed_list::PlacedList;
@@ -26,7 +26,7 @@ pub(crate) fn find(parts: &PlacedList<Part>, entity: EntityId) -> Result<usize, 
     let mut low = 0;
     let mut high = parts.len();
     while low < high {
-        let middle = low + (high - low) / 2;
+        let middle = place_between(low, high, entity);
         match part_at(parts, middle).entity.cmp(&entity) {
             Ordering::Less => low = middle + 1,
             Ordering::Equal => return Ok(middle),

@@ -12,7 +12,7 @@ use crate::{EntityId, Frame, NoMemory, Packets, Purpose, Request, Words};
 use class_spec::ONU_DATA;
 use omci_contents::{Message, write_message};
 use omci_core::front_filled;
-use omci_frames::encode;
+use omci_frames::{FRAME_BYTES, encode};
 use std::marker::Model;
 
 /// A mask that names attribute 1 alone. Attribute 1 of ONU data is MIB data sync.
@@ -200,7 +200,7 @@ impl Command {
             (out.new ≡ out.old ++ with_sections tci self.now.entity 0 self.now.earlier []) }
         ensures err { OnErr result (AddsFront
             (with_sections tci self.now.entity 0 self.now.earlier []) out.old out.new) }
-        ensures whole { OnOk result (All (λ packet. length packet ≡ 48)
+        ensures whole { OnOk result (All (λ packet. length packet ≡ FRAME_BYTES)
             (with_sections tci self.now.entity 0 self.now.earlier [])) }
     {
         match &self.sections {
@@ -230,7 +230,7 @@ fn put_section(
 ) -> Result<(), NoMemory>
     ensures ok { OnOk result (out.new ≡ out.old ++ section_packet tci entity number bytes ∷ []) }
     ensures err { OnErr result (out.new ≡ out.old) }
-    ensures whole { length (section_packet tci entity number bytes) ≡ 48 }
+    ensures whole { length (section_packet tci entity number bytes) ≡ FRAME_BYTES }
 {
     let request = Request::Section {
         number,
@@ -242,7 +242,7 @@ fn put_section(
         entity,
         request,
     });
-    let mut packet = [0; 48];
+    let mut packet = [0; FRAME_BYTES];
     encode(&frame, &mut packet);
     out.push_bytes(&packet)
 }
@@ -259,7 +259,7 @@ fn put_sections(
         ≡ out.old ++ with_sections tci entity 0 (earlier_of (Some sections.now)) []) }
     ensures err { OnErr result (AddsFront
         (with_sections tci entity 0 (earlier_of (Some sections.now)) []) out.old out.new) }
-    ensures whole { OnOk result (All (λ packet. length packet ≡ 48)
+    ensures whole { OnOk result (All (λ packet. length packet ≡ FRAME_BYTES)
         (with_sections tci entity 0 (earlier_of (Some sections.now)) [])) }
 {
     for number in 0..sections.len() - 1 {

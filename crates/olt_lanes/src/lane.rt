@@ -11,13 +11,14 @@ ghost use Rattle.olt_lanes.specs.Sections.{AddsFront};
 use crate::command::{Command, is_change};
 use crate::{Frame, LaneTick, NoMemory, Packets, Priority};
 use lane_spec::{HIGH_TIMEOUT, LOW_TIMEOUT, MOST_REPEATS};
+use message_spec::{AK, AR};
 use omci_core::next_number;
-use omci_frames::encode;
+use omci_frames::{FRAME_BYTES, encode};
 use std::marker::Model;
 use tci_spec::FIRST_HIGH_TCI;
 
 /// AR in a type byte less AK.
-const AR_LESS_AK: u16 = 0x20;
+const AR_LESS_AK: u16 = (AR - AK) as u16;
 
 /// A command that waits for its reply.
 #[derive(Drop)]
@@ -77,11 +78,11 @@ impl Waiting {
             (out.new ≡ out.old ++ command_packets self.now.tci self.now.command) }
         ensures err { OnErr result (AddsFront
             (command_packets self.now.tci self.now.command) out.old out.new) }
-        ensures whole { OnOk result (All (λ packet. length packet ≡ 48)
+        ensures whole { OnOk result (All (λ packet. length packet ≡ FRAME_BYTES)
             (command_packets self.now.tci self.now.command)) }
     {
         self.command.earlier_packets(self.frame.tci, out)?;
-        let mut bytes = [0; 48];
+        let mut bytes = [0; FRAME_BYTES];
         encode(&self.frame, &mut bytes);
         out.push_bytes(&bytes)?;
         Ok(())
@@ -254,7 +255,7 @@ impl Lane {
         ensures ok { OnOk result (out.new ≡ out.old ++ waiting_packets self.now.outstanding) }
         ensures err { OnErr result (AddsFront
             (waiting_packets self.now.outstanding) out.old out.new) }
-        ensures whole { OnOk result (All (λ packet. length packet ≡ 48)
+        ensures whole { OnOk result (All (λ packet. length packet ≡ FRAME_BYTES)
             (waiting_packets self.now.outstanding)) }
     {
         match &self.outstanding {

@@ -2,6 +2,7 @@
 use Rattle.std.specs.Prelude.{◌≡◌, Bool, false, ℕ, List, length}
 use Rattle.std.specs.List.{All}
 use Rattle.manager_spec.specs.Manager.{Manager}
+use Rattle.frame_spec.specs.declared.TheConstants.{FRAME_BYTES}
 
 pub record State : Type 0 where
   pub spent : Bool
@@ -13,4 +14,4 @@ sound m = record { spent = false; manager = m }
 
 -- each packet is a baseline frame's 48 bytes
 abbrev pub AreFrames : List (List ℕ) → Type 0
-AreFrames packets = All (λ packet. length packet ≡ 48) packets
+AreFrames packets = All (λ packet. length packet ≡ FRAME_BYTES) packets

@@ -20,3 +20,4 @@ pub use download_window::{Image, ImageRefusal};
 pub use manager::Manager;
 pub use manager_spec::{AuditReason, ImageReason, Job, Phase, Refusal, Report, ResyncReason};
 pub use mib_upload::{CopyEntry, MibCopy};
+pub use upgrade::image_entity;

@@ -19,18 +19,19 @@ use crate::olt::Olt;
 use crate::replies::response_of;
 use crate::stage::{Order, Stage};
 use download_window::{Image, Outbox};
-use manager_spec::{IMAGE_CLASS, ImageReason, Job, MOST_BUSY, MOST_RESENT, Phase, Report};
+use manager_spec::{ImageReason, Job, MOST_BUSY, MOST_RESENT, Phase, Report};
 use olt_lanes::Command;
 use omci_contents::{Request, Response};
 use omci_core::{Code, EntityId, NoMemory, Words};
 use omci_frames::Frame;
 use std::alloc::Global;
+use window_spec::IMAGE_CLASS;
 
 /// A download is for one circuit pack.
 const ONE_TARGET: u8 = 1;
 
-/// The software image of a slot.
-fn image_entity(slot: u8) -> EntityId
+/// The software image of a slot (ITU-T G.988, clause 9.1.4): the instance is the slot.
+pub fn image_entity(slot: u8) -> EntityId
     ensures value { result ≡ image_entity slot }
 {
     EntityId {
@@ -56,7 +57,8 @@ pub fn start_command(order: &Order, asked: u16, image: &Image) -> Command
 
 /// The window of an image.
 pub fn window_command(alloc: Global, order: &Order, outbox: &Outbox) -> Result<Command, NoMemory>
-    ensures value { IfOk result (λ command. command ≡ image_window (order_of order.now) outbox.now) }
+    ensures value { IfOk result (λ command.
+        command ≡ image_window (order_of order.now) outbox.now) }
 {
     let mut sections = Words::new(alloc);
     for number in 0..outbox.sections() {

@@ -6,7 +6,7 @@ use Rattle.omci_core.specs.Causes.{Rose}
 use Rattle.script_spec.specs.Script.{Orders}
 use Rattle.turn_spec.specs.Arrivals.{Arrival}
 use Rattle.turn_spec.specs.OltTurns.{OltState, OltRun, olt_run_from, olt_run, at_end, led}
-use Rattle.trace_lines.specs.Writing.{WritesFront}
+use Rattle.whole_writes.specs.Writing.{WritesFront}
 use Rattle.olt_turns.specs.Seat.{packets_after, SendsFront, TookAll}
 use Rattle.olt_turns.specs.declared.fault.OltFault.{OltFault}
 use Rattle.olt_turns.specs.declared.fault.OltFault.TheVariants as fault

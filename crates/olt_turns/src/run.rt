@@ -4,7 +4,7 @@ ghost use Rattle.std.specs.Prelude.{◌≡◌, ◌+◌, ◌≤◌, ◌++◌, [],
 ghost use Rattle.std.specs.Io.KnownBytes.{Appends};
 ghost use Rattle.omci_core.specs.Causes.{Rose};
 ghost use Rattle.turn_spec.specs.OltTurns.{left_text};
-ghost use Rattle.trace_lines.specs.Writing.{WritesFront};
+ghost use Rattle.whole_writes.specs.Writing.{WritesFront};
 ghost use Rattle.olt_turns.specs.declared.fault.OltFault.TheVariants as fault;
 ghost use Rattle.olt_turns.specs.Seat.{state_of, StopsLink};
 ghost use Rattle.olt_turns.specs.Running.{HasRun, HasRunInPart, EndsOlt, Ran, RanInPart};
@@ -16,7 +16,8 @@ use omci_core::{NoMemory, Sink};
 use omci_link::Link;
 use replay_script::Orders;
 use std::alloc::Global;
-use trace_lines::{Lines, write_all};
+use trace_lines::Lines;
+use whole_writes::write_all;
 
 /// Writes all of these bytes to the sink.
 fn write_out<K: Sink>(sink: &mut K, bytes: &[u8]) -> Result<(), OltFault>

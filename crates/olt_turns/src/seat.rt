@@ -2,7 +2,7 @@
 
 ghost use Rattle.std.specs.Prelude.{◌≡◌, ◌≢◌, ◌+◌, ◌<◌, ◌≤◌, ◌++◌, [], ◌∷◌, true, length, take, OnOk, OnErr, IfOk, IfErr, MatchResult};
 ghost use Rattle.frame_spec.specs.Baseline.{frame_of};
-ghost use Rattle.frame_spec.specs.declared.TheConstants.{MAX_PACKET_BYTES};
+ghost use Rattle.frame_spec.specs.declared.TheConstants.{FRAME_BYTES, MAX_PACKET_BYTES};
 ghost use Rattle.link_spec.specs.declared.Direction.TheVariants.{Down};
 ghost use Rattle.script_spec.specs.declared.Document.TheVariants as documents;
 ghost use Rattle.script_spec.specs.Script.{IsAction, HasAction};
@@ -156,7 +156,7 @@ impl Seat {
         lines: &mut Lines,
         link: &mut L,
     ) -> Result<(), OltFault>
-        requires whole { length packet.now ≡ 48 }
+        requires whole { length packet.now ≡ FRAME_BYTES }
         ensures seat { OnOk result (self.new ≡ record self.old { sent = self.old.sent + 1 }) }
         ensures lines { OnOk result (lines.new ≡ lines.old ++ line_text self.old.turn
             (effect.PacketSent self.old.sent Down (frame_of packet.now))) }

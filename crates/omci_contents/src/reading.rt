@@ -37,7 +37,8 @@ fn read_section(contents: &[u8; CONTENTS_BYTES], last: bool) -> Request
 
 // The request of some contents with AR.
 fn read_request(action: Action, contents: &[u8; CONTENTS_BYTES]) -> Request
-    ensures { result ≡ request_with action (values_at (layout (kinds.Request action)) contents.now) }
+    ensures { result ≡
+        request_with action (values_at (layout (kinds.Request action)) contents.now) }
 {
     match action {
         Action::Create => Request::Create {

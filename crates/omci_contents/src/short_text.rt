@@ -208,10 +208,9 @@ impl ShortText {
         ensures text { self.new ≡ self.old ++ encode_lower bytes.now }
         ensures grown { length self.new ≡ length self.old + 2 * length bytes.now }
     {
-        let mut digits = [0; 64];
-        let digits = &mut digits[..2 * bytes.len()];
-        hex::encode_to_slice(bytes, digits).unwrap();
-        self.append(digits);
+        let end = self.len + 2 * bytes.len();
+        hex::encode_to_slice(bytes, &mut self.bytes[self.len..end]).unwrap();
+        self.len = end;
     }
 
     /// Adds the text of at most 32 contents bytes.

@@ -1,7 +1,7 @@
 //! The text of a message.
 
 ghost use Rattle.std.specs.Prelude.{◌≡◌, ◌+◌, ◌≤◌, ◌++◌, length, take, drop, OnOk, IfOk};
-ghost use Rattle.std.specs.Int.{from_be_bytes, w64};
+ghost use Rattle.std.specs.Int.{from_be_bytes, w32, w64};
 ghost use Rattle.message_spec.specs.Types as spec;
 ghost use Rattle.message_spec.specs.Text.{kind_name, kind_text, cut, contents_text, message_text};
 ghost use Rattle.omci_contents.specs.Front.{IsFront};
@@ -79,15 +79,38 @@ fn number_at(bytes: &[u8], place: usize) -> u64
     u64::from_be_bytes(eight)
 }
 
+// The number that the four bytes at a place are.
+fn half_number_at(bytes: &[u8], place: usize) -> u32
+    requires { place + 4 ≤ length bytes.now }
+    ensures value { result ≡ from_be_bytes w32 (take 4 (drop place bytes.now)) }
+{
+    let mut four = [0; 4];
+    four.copy_from_slice(&bytes[place..place + 4]);
+    u32::from_be_bytes(four)
+}
+
 // How many bytes are left where zeros at the end are cut eight at a time. Of the zeros, fewer than
 // eight may be left.
-fn zeros_passed(bytes: &[u8]) -> usize
+fn eights_passed(bytes: &[u8]) -> usize
     ensures value { cut (take result bytes.now) ≡ cut bytes.now }
     ensures bound { result ≤ length bytes.now }
 {
     let mut end = bytes.len();
     while end >= 8 && number_at(bytes, end - 8) == 0 {
         end -= 8;
+    }
+    end
+}
+
+// How many bytes are left where zeros at the end are cut eight at a time, and then four. Of the
+// zeros, fewer than four may be left.
+fn zeros_passed(bytes: &[u8]) -> usize
+    ensures value { cut (take result bytes.now) ≡ cut bytes.now }
+    ensures bound { result ≤ length bytes.now }
+{
+    let end = eights_passed(bytes);
+    if end >= 4 && half_number_at(bytes, end - 4) == 0 {
+        return end - 4;
     }
     end
 }

@@ -171,7 +171,8 @@ impl Sink for MemSink {
     fn write(&mut self, from: &[u8]) -> Result<usize, Failed>
         ensures bound { WritesAtMost result from.now }
         ensures some { 0 < length from.now → IfOk result (λ n. 0 < n) }
-        ensures bytes { WriteAppends (Some self.old.written) (Some self.new.written) result from.now }
+        ensures bytes { WriteAppends (Some self.old.written) (Some self.new.written) result
+            from.now }
         ensures cause { HasCause self.old.faults self.new.faults result }
         ensures fault { IsErr result ↔ IsTrue (sink_fails self.old) }
         ensures count { IfOk result

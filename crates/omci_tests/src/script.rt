@@ -50,8 +50,9 @@ cutin 007 0500 Fa\n\
 cutin 7 500 00";
 
 /// A get of ONU data in 48 bytes, with the check value that it has to have.
-const FRAME: &str =
-    "0001490a0002000080000000000000000000000000000000000000000000000000000000000000000000002886d7d0d6";
+const FRAME: &str = "0001490a00020000\
+    8000000000000000000000000000000000000000000000000000000000000000\
+    0000002886d7d0d6";
 
 /// The same request in an extended frame of 16 bytes, with its check value.
 const LONG_FRAME: &str = "0001490b0002000000028000a7c4e70f";

@@ -8,7 +8,7 @@ use Rattle.omci_core.proofs.Streams.{Appends-none, Appends-then, Consumes-whole}
 use Rattle.stream_spec.specs.Streams.{Open, IsStream}
 use Rattle.extended_spec.specs.Frames.{Any, IsAny, any_spelling}
 use Rattle.extended_spec.specs.Streams.{any_front}
-use Rattle.trace_lines.specs.Writing.{WritesFront}
+use Rattle.whole_writes.specs.Writing.{WritesFront}
 use Rattle.show_spec.specs.Shown.{Passes, open_reason, reason_by, reason_at, frame_bytes, frame_lines, none_refused, no_message_refused, unknown_count, count_text}
 use Rattle.stream_show.specs.declared.ends.StreamEnd.{StreamEnd}
 use Rattle.stream_show.specs.declared.ends.StreamEnd.TheVariants as ends

@@ -5,12 +5,12 @@ use Rattle.slot_spec.specs.Slots.{SlotPair}
 use Rattle.turn_spec.specs.Arrivals.{Arrival}
 use Rattle.unit_turns.specs.declared.ending.UnitStatus.{UnitStatus}
 use Rattle.unit_turns.specs.declared.ending.UnitStatus.TheVariants as ended
-use Rattle.unit_turns.specs.Ending.{CausedBy, DiskCausedBy, UnitEnds}
+use Rattle.unit_turns.specs.Ending.{CausedBy, DiskCausedBy, EndsBare, UnitEnds}
 use Rattle.command_lines.specs.declared.Command.{Command}
 use Rattle.command_lines.specs.declared.Command.TheVariants.{Unit}
 use Rattle.omci_top.specs.Units.{unit_status, AnswersUnit}
 use Rattle.omci_top.specs.declared.status.Status.{Status}
-use Rattle.omci_top.specs.declared.status.Status.TheVariants.{Done, WriteFault, DiskFault, LinkFault, NoMemory}
+use Rattle.omci_top.specs.declared.status.Status.TheVariants.{Done, WriteFault, DiskFault, LinkFault, NoUnit, NoMemory}
 
 -- the count of the disk, by the answer
 pub unit_disk_fault : (old new : ℕ) (e : UnitStatus) → DiskCausedBy e old new
@@ -21,6 +21,16 @@ unit_disk_fault old new ended.NoUnit cause is = absurd (cc)
 unit_disk_fault old new ended.LinkFault cause is = absurd (cc)
 unit_disk_fault old new ended.WriteFault cause is = absurd (cc)
 unit_disk_fault old new ended.NoMemory cause is = absurd (cc)
+
+-- on a disk of no unit a run is refused where memory suffices and no device call fails
+pub unit_refuses_of : (old new : ℕ) (e : UnitStatus) → EndsBare e → DiskCausedBy e old new
+    → ¬ Rose old new → unit_status e ≢ NoMemory → unit_status e ≡ NoUnit
+unit_refuses_of old new ended.Done bare cause calm some = absurd bare
+unit_refuses_of old new ended.DiskFault bare cause calm some = absurd (calm cause)
+unit_refuses_of old new ended.NoUnit bare cause calm some = refl
+unit_refuses_of old new ended.LinkFault bare cause calm some = absurd bare
+unit_refuses_of old new ended.WriteFault bare cause calm some = absurd bare
+unit_refuses_of old new ended.NoMemory bare cause calm some = absurd (some refl)
 
 module _ (lb ln kb kn : ℕ) where
   -- the counts of the sink and of the link, by the answer

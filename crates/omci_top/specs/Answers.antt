@@ -10,10 +10,11 @@ use Rattle.world_spec.specs.Trace.{trace}
 use Rattle.omci_top.specs.Headline.{WritesTrace, ActsOnce, TakesOwnReplies, CopiesDatabases, StaysInStep, AuditsAlarms, DownloadsImages, AlwaysBoots}
 use Rattle.omci_top.specs.Streams.{ReadsWhole, ReadsPast}
 use Rattle.link_replay.specs.Seen.{State, WorldStands}
-use Rattle.trace_lines.specs.Writing.{WritesFront}
+use Rattle.whole_writes.specs.Writing.{WritesFront}
 use Rattle.omci_top.specs.Texts.{input_text, answer_to}
 use Rattle.omci_top.specs.declared.status.Status.{Status}
 use Rattle.omci_top.specs.declared.status.Status.TheVariants.{Done, Usage, Input, ReadFault, WriteFault, DiskFault, LinkFault, NoUnit, TooLong, NoMemory, TooLarge}
+use Rattle.omci_top.specs.declared.streams.TheConstants.{LARGEST_INPUT}
 
 -- the exit status of the program
 abbrev pub status_number : Status → ℕ
@@ -85,7 +86,7 @@ pub record Replays (world : Option State)
     (left_before left_now written_before written_now : Option (List ℕ)) : Type 0 where
   pub input : List ℕ
   pub script : Script
-  pub read : ReadsWhole 16777216 left_before left_now input
+  pub read : ReadsWhole LARGEST_INPUT left_before left_now input
   pub spelled : Writes script input
   pub traced : WritesTrace script written_before written_now
   pub ended : StandsAfter script world
@@ -102,7 +103,7 @@ pub record Replays (world : Option State)
 pub record Refuses (place reason : ℕ) (left_before left_now written_before written_now : Option
     (List ℕ)) : Type 0 where
   pub input : List ℕ
-  pub read : ReadsWhole 16777216 left_before left_now input
+  pub read : ReadsWhole LARGEST_INPUT left_before left_now input
   pub faulty : fault input ≡ Some (place, reason)
   pub told : Appends written_before written_now (input_text place reason)
 
@@ -110,7 +111,7 @@ pub record Refuses (place reason : ℕ) (left_before left_now written_before wri
 pub record BreaksOffAt (left_before left_now written_before written_now : Option (List ℕ)) : Type 0
   where
     pub input : List ℕ
-    pub read : ReadsWhole 16777216 left_before left_now input
+    pub read : ReadsWhole LARGEST_INPUT left_before left_now input
     pub front : WritesFront (answer_to input) written_before written_now
 
 -- What a replay comes to, by its answer. A command line that is a replay's isn't answered by Usage.
@@ -142,7 +143,7 @@ AnswersReplay NoUnit world left_before left_now written_before written_now read_
     write_before write_now = ⊥
 AnswersReplay TooLong world left_before left_now written_before written_now read_before read_now
     write_before write_now =
-    ReadsPast 16777216 left_before left_now × (read_now ≡ read_before) × (write_now ≡ write_before)
+    ReadsPast LARGEST_INPUT left_before left_now × (read_now ≡ read_before) × (write_now ≡ write_before)
 AnswersReplay NoMemory world left_before left_now written_before written_now read_before read_now
     write_before write_now =
     (Appends written_before written_now []

@@ -8,6 +8,7 @@ use Rattle.omci_top.specs.Streams.{ReadsWhole, ReadsPast}
 use Rattle.omci_top.specs.declared.flash.TheConstants.{FLASH_ROOM}
 use Rattle.omci_top.specs.declared.status.Status.{Status}
 use Rattle.omci_top.specs.declared.status.Status.TheVariants.{Done, Usage, Input, ReadFault, WriteFault, DiskFault, LinkFault, NoUnit, TooLong, NoMemory, TooLarge}
+use Rattle.omci_top.specs.declared.streams.TheConstants.{LARGEST_INPUT}
 
 -- The disk reads as bytes that stand for the image in slot 0, which is committed, and none in slot
 -- 1, with a room of 1,048,576 bytes each; and so does what each crash leaves.
@@ -47,7 +48,7 @@ module _ {D : Type 0} (seen : D → Option (List ℕ)) (may_leave : D → List �
   pub record FlashesWhole (status : Status) (before now : D)
       (left_before left_now : Option (List ℕ)) : Type 0 where
     pub image : List ℕ
-    pub read : ReadsWhole 16777216 left_before left_now image
+    pub read : ReadsWhole LARGEST_INPUT left_before left_now image
     pub flashed : FlashesImage status image before now
 
   -- What a flash comes to, by its answer. A command line that is a flash's isn't answered by Usage.
@@ -65,7 +66,7 @@ module _ {D : Type 0} (seen : D → Option (List ℕ)) (may_leave : D → List �
   AnswersFlash LinkFault before now left_before left_now read_before read_now = ⊥
   AnswersFlash NoUnit before now left_before left_now read_before read_now = ⊥
   AnswersFlash TooLong before now left_before left_now read_before read_now =
-      ReadsPast 16777216 left_before left_now × (read_now ≡ read_before) × (now ≡ before)
+      ReadsPast LARGEST_INPUT left_before left_now × (read_now ≡ read_before) × (now ≡ before)
   AnswersFlash NoMemory before now left_before left_now read_before read_now =
       (read_now ≡ read_before) × (now ≡ before)
   AnswersFlash TooLarge before now left_before left_now read_before read_now =

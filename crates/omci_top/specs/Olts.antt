@@ -6,12 +6,13 @@ use Rattle.script_spec.specs.Script.{Orders}
 use Rattle.script_spec.specs.Grammar.{WritesOrders}
 use Rattle.script_spec.specs.Fault.{orders_fault}
 use Rattle.turn_spec.specs.Arrivals.{Arrival}
-use Rattle.trace_lines.specs.Writing.{WritesFront}
+use Rattle.whole_writes.specs.Writing.{WritesFront}
 use Rattle.olt_turns.specs.Running.{HasRun, HasRunInPart}
 use Rattle.omci_top.specs.Streams.{ReadsWhole, ReadsPast}
 use Rattle.omci_top.specs.Texts.{input_text}
 use Rattle.omci_top.specs.declared.status.Status.{Status}
 use Rattle.omci_top.specs.declared.status.Status.TheVariants.{Done, Input, ReadFault, WriteFault, LinkFault, TooLong, NoMemory}
+use Rattle.omci_top.specs.declared.streams.TheConstants.{LARGEST_INPUT}
 
 -- a front of the line that tells the first fault of the input was written
 abbrev pub TellsFront : List ℕ → (before now : Option (List ℕ)) → Type 0
@@ -93,7 +94,7 @@ module _ {L : Type 0} (left : L → Option (List Arrival)) (sent : L → Option 
       (left_before left_now written_before written_now : Option (List ℕ))
       (write_before write_now : ℕ) : Type 0 where
     pub input : List ℕ
-    pub read : ReadsWhole 16777216 left_before left_now input
+    pub read : ReadsWhole LARGEST_INPUT left_before left_now input
     pub ends : OltEnds status turns input before now written_before written_now write_before
         write_now
 
@@ -106,7 +107,7 @@ module _ {L : Type 0} (left : L → Option (List Arrival)) (sent : L → Option 
       Rose read_before read_now × (now ≡ before) × (write_now ≡ write_before)
   AnswersOlt TooLong turns before now left_before left_now written_before written_now read_before
       read_now write_before write_now =
-      ReadsPast 16777216 left_before left_now
+      ReadsPast LARGEST_INPUT left_before left_now
       × (read_now ≡ read_before) × (now ≡ before) × (write_now ≡ write_before)
   AnswersOlt NoMemory turns before now left_before left_now written_before written_now read_before
       read_now write_before write_now =

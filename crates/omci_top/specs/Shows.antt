@@ -12,13 +12,14 @@ use Rattle.omci_top.specs.Streams.{ReadsWhole}
 use Rattle.omci_top.specs.Texts.{input_text}
 use Rattle.omci_top.specs.declared.status.Status.{Status}
 use Rattle.omci_top.specs.declared.status.Status.TheVariants.{Done, Usage, Input, ReadFault, WriteFault, DiskFault, LinkFault, NoUnit, TooLong, NoMemory, TooLarge}
+use Rattle.omci_top.specs.declared.streams.TheConstants.{LARGEST_INPUT}
 
 -- the source was read to its end, and its bytes are the stream of these frames, of which none is
 -- refused
 pub record ReadsFrames (refused : Any → Option ℕ) (left_before left_now : Option (List ℕ))
     (frames : List Any) : Type 0 where
   pub input : List ℕ
-  pub read : ReadsWhole 16777216 left_before left_now input
+  pub read : ReadsWhole LARGEST_INPUT left_before left_now input
   pub stream : IsStream IsAny any_spelling input frames []
   pub passed : All (λ frame. refused frame ≡ None) frames
 
@@ -26,7 +27,7 @@ pub record ReadsFrames (refused : Any → Option ℕ) (left_before left_now : Op
 -- none is refused
 abbrev pub SeesFrames : (refused : Any → Option ℕ) (left_before left_now : Option (List ℕ))
     (frames : List Any) (rest : List ℕ) → Type 0
-SeesFrames refused left_before left_now frames rest = Sees refused 16777216 left_before left_now
+SeesFrames refused left_before left_now frames rest = Sees refused LARGEST_INPUT left_before left_now
     frames rest
 
 -- the frame after these is refused at this place for this reason
@@ -87,7 +88,7 @@ AnswersShow NoUnit left_before left_now written_before written_now read_before r
     write_now = ⊥
 AnswersShow TooLong left_before left_now written_before written_now read_before read_now
     write_before write_now =
-    ((frames : List Any) × (rest : List ℕ) × SeesPast none_refused 16777216 left_before left_now
+    ((frames : List Any) × (rest : List ℕ) × SeesPast none_refused LARGEST_INPUT left_before left_now
     frames rest × Appends written_before written_now (frame_lines frames))
     × (read_now ≡ read_before) × (write_now ≡ write_before)
 AnswersShow NoMemory left_before left_now written_before written_now read_before read_now
@@ -148,7 +149,7 @@ AnswersCheck NoUnit left_before left_now written_before written_now read_before 
 AnswersCheck TooLong left_before left_now written_before written_now read_before read_now
     write_before write_now =
     ((frames : List Any) × (rest : List ℕ)
-    × SeesPast no_message_refused 16777216 left_before left_now frames rest)
+    × SeesPast no_message_refused LARGEST_INPUT left_before left_now frames rest)
     × (read_now ≡ read_before) × (write_now ≡ write_before)
 AnswersCheck NoMemory left_before left_now written_before written_now read_before read_now
     write_before write_now =
@@ -164,13 +165,13 @@ AnswersCheck TooLarge left_before left_now written_before written_now read_befor
 pub record HasFault (refused : Any → Option ℕ) (bytes : List ℕ) (frames : List Any)
     (place reason : ℕ) : Type 0 where
   pub rest : List ℕ
-  pub passes : Passes refused (take 16777216 bytes) frames rest
+  pub passes : Passes refused (take LARGEST_INPUT bytes) frames rest
   pub at : place ≡ length (frame_bytes frames)
-  pub why : reason_at refused (nat_le (length bytes) 16777216) rest ≡ Some reason
+  pub why : reason_at refused (nat_le (length bytes) LARGEST_INPUT) rest ≡ Some reason
 
 -- The frames of a stream's first 16,777,216 bytes, of which none is refused, nor what follows them
 -- there.
 pub record HasNoFault (refused : Any → Option ℕ) (bytes : List ℕ) (frames : List Any) : Type 0 where
   pub rest : List ℕ
-  pub passes : Passes refused (take 16777216 bytes) frames rest
+  pub passes : Passes refused (take LARGEST_INPUT bytes) frames rest
   pub nothing : any_front rest ≡ Open

@@ -9,6 +9,7 @@ ghost use Rattle.script_spec.specs.Grammar.{Writes, WritesOrders};
 ghost use Rattle.script_spec.specs.Fault.{fault, orders_fault};
 ghost use Rattle.slot_spec.specs.Slots.{SlotPair};
 ghost use Rattle.slot_spec.specs.Layout.{StandsAt};
+ghost use Rattle.image_store.specs.Starts.{IsUnit};
 ghost use Rattle.command_lines.specs.Commands.{command_of};
 ghost use Rattle.omci_top.specs.Calls.{reads_source, writes_sink, calls_disk, calls_link, runs_world};
 ghost use Rattle.omci_top.specs.Answers.{AnswersReplay};
@@ -38,6 +39,7 @@ use replay::Replayed;
 use slot_disk::Disk;
 pub use status::Status;
 use std::alloc::Global;
+pub use streams::LARGEST_INPUT;
 
 /// What a call came to.
 #[derive(Drop)]
@@ -133,19 +135,19 @@ pub fn omci<S: Source, K: Sink, D: Disk, L: Link>(
     // 16,777,216 bytes are too long.
     ensures replay_runs { (script : Script) (bytes : List ℕ)
         → command_of words.now ≡ Some Command.Replay → S.left source.old ≡ Some bytes
-        → length bytes ≤ 16777216 → Writes script bytes
+        → length bytes ≤ LARGEST_INPUT → Writes script bytes
         → ¬ Rose (S.faults source.old) (S.faults source.new)
         → ¬ Rose (K.faults sink.old) (K.faults sink.new)
         → result.status ≢ Status.NoMemory → result.status ≡ Status.Done }
     ensures replay_refuses { (place reason : ℕ) (bytes : List ℕ)
         → command_of words.now ≡ Some Command.Replay → S.left source.old ≡ Some bytes
-        → length bytes ≤ 16777216 → fault bytes ≡ Some (place, reason)
+        → length bytes ≤ LARGEST_INPUT → fault bytes ≡ Some (place, reason)
         → ¬ Rose (S.faults source.old) (S.faults source.new)
         → ¬ Rose (K.faults sink.old) (K.faults sink.new)
         → result.status ≢ Status.NoMemory → result.status ≡ Status.Input place reason }
     ensures replay_stops { (bytes : List ℕ)
         → command_of words.now ≡ Some Command.Replay → S.left source.old ≡ Some bytes
-        → 16777216 < length bytes
+        → LARGEST_INPUT < length bytes
         → ¬ Rose (S.faults source.old) (S.faults source.new)
         → result.status ≢ Status.NoMemory → result.status ≡ Status.TooLong }
 
@@ -153,7 +155,7 @@ pub fn omci<S: Source, K: Sink, D: Disk, L: Link>(
     // first fault within 16,777,216 bytes is told, and where there is none more bytes are too long.
     ensures show_runs { (frames : List Any) (bytes : List ℕ)
         → command_of words.now ≡ Some Command.Show → S.left source.old ≡ Some bytes
-        → length bytes ≤ 16777216 → Passes none_refused bytes frames []
+        → length bytes ≤ LARGEST_INPUT → Passes none_refused bytes frames []
         → ¬ Rose (S.faults source.old) (S.faults source.new)
         → ¬ Rose (K.faults sink.old) (K.faults sink.new)
         → result.status ≢ Status.NoMemory → result.status ≡ Status.Done }
@@ -165,13 +167,13 @@ pub fn omci<S: Source, K: Sink, D: Disk, L: Link>(
         → result.status ≢ Status.NoMemory → result.status ≡ Status.Input place reason }
     ensures show_stops { (frames : List Any) (bytes : List ℕ)
         → command_of words.now ≡ Some Command.Show → S.left source.old ≡ Some bytes
-        → 16777216 < length bytes → HasNoFault none_refused bytes frames
+        → LARGEST_INPUT < length bytes → HasNoFault none_refused bytes frames
         → ¬ Rose (S.faults source.old) (S.faults source.new)
         → ¬ Rose (K.faults sink.old) (K.faults sink.new)
         → result.status ≢ Status.NoMemory → result.status ≡ Status.TooLong }
     ensures check_runs { (frames : List Any) (bytes : List ℕ)
         → command_of words.now ≡ Some Command.Check → S.left source.old ≡ Some bytes
-        → length bytes ≤ 16777216 → Passes no_message_refused bytes frames []
+        → length bytes ≤ LARGEST_INPUT → Passes no_message_refused bytes frames []
         → ¬ Rose (S.faults source.old) (S.faults source.new)
         → ¬ Rose (K.faults sink.old) (K.faults sink.new)
         → result.status ≢ Status.NoMemory → result.status ≡ Status.Done }
@@ -183,7 +185,7 @@ pub fn omci<S: Source, K: Sink, D: Disk, L: Link>(
         → result.status ≢ Status.NoMemory → result.status ≡ Status.Input place reason }
     ensures check_stops { (frames : List Any) (bytes : List ℕ)
         → command_of words.now ≡ Some Command.Check → S.left source.old ≡ Some bytes
-        → 16777216 < length bytes → HasNoFault no_message_refused bytes frames
+        → LARGEST_INPUT < length bytes → HasNoFault no_message_refused bytes frames
         → ¬ Rose (S.faults source.old) (S.faults source.new)
         → ¬ Rose (K.faults sink.old) (K.faults sink.new)
         → result.status ≢ Status.NoMemory → result.status ≡ Status.TooLong }
@@ -198,12 +200,12 @@ pub fn omci<S: Source, K: Sink, D: Disk, L: Link>(
         → result.status ≢ Status.NoMemory → result.status ≡ Status.Done }
     ensures flash_refuses { (image : List ℕ)
         → command_of words.now ≡ Some Command.Flash → S.left source.old ≡ Some image
-        → length image ≤ 16777216 → IsTooLarge image
+        → length image ≤ LARGEST_INPUT → IsTooLarge image
         → ¬ Rose (S.faults source.old) (S.faults source.new)
         → result.status ≢ Status.NoMemory → result.status ≡ Status.TooLarge }
     ensures flash_stops { (bytes : List ℕ)
         → command_of words.now ≡ Some Command.Flash → S.left source.old ≡ Some bytes
-        → 16777216 < length bytes
+        → LARGEST_INPUT < length bytes
         → ¬ Rose (S.faults source.old) (S.faults source.new)
         → result.status ≢ Status.NoMemory → result.status ≡ Status.TooLong }
 
@@ -216,25 +218,26 @@ pub fn omci<S: Source, K: Sink, D: Disk, L: Link>(
     // 16,777,216 bytes are too long.
     ensures olt_runs { (turns : ℕ) (orders : Orders) (bytes : List ℕ)
         → command_of words.now ≡ Some (Command.Olt turns) → S.left source.old ≡ Some bytes
-        → length bytes ≤ 16777216 → WritesOrders orders bytes
+        → length bytes ≤ LARGEST_INPUT → WritesOrders orders bytes
         → ¬ Rose (S.faults source.old) (S.faults source.new)
         → ¬ Rose (K.faults sink.old) (K.faults sink.new)
         → ¬ Rose (L.faults link.old) (L.faults link.new)
         → result.status ≢ Status.NoMemory → result.status ≡ Status.Done }
     ensures olt_refuses { (turns place reason : ℕ) (bytes : List ℕ)
         → command_of words.now ≡ Some (Command.Olt turns) → S.left source.old ≡ Some bytes
-        → length bytes ≤ 16777216 → orders_fault bytes ≡ Some (place, reason)
+        → length bytes ≤ LARGEST_INPUT → orders_fault bytes ≡ Some (place, reason)
         → ¬ Rose (S.faults source.old) (S.faults source.new)
         → ¬ Rose (K.faults sink.old) (K.faults sink.new)
         → ¬ Rose (L.faults link.old) (L.faults link.new)
         → result.status ≢ Status.NoMemory → result.status ≡ Status.Input place reason }
     ensures olt_stops { (turns : ℕ) (bytes : List ℕ)
         → command_of words.now ≡ Some (Command.Olt turns) → S.left source.old ≡ Some bytes
-        → 16777216 < length bytes
+        → LARGEST_INPUT < length bytes
         → ¬ Rose (S.faults source.old) (S.faults source.new)
         → result.status ≢ Status.NoMemory → result.status ≡ Status.TooLong }
 
-    // A unit on a disk that stands for some slots runs for its turns, or until the link is closed.
+    // A unit on a disk that stands for some slots runs for its turns, or until the link is closed;
+    // bytes that a mount would refuse are no unit's.
     ensures unit_runs { (turns room : ℕ) (slots : SlotPair) (bytes : List ℕ)
         → command_of words.now ≡ Some (Command.Unit turns) → D.seen disk ≡ Some bytes
         → StandsAt room bytes slots
@@ -242,6 +245,11 @@ pub fn omci<S: Source, K: Sink, D: Disk, L: Link>(
         → ¬ Rose (L.faults link.old) (L.faults link.new)
         → ¬ Rose (D.faults disk) (D.faults result.disk)
         → result.status ≢ Status.NoMemory → result.status ≡ Status.Done }
+    ensures unit_refuses { (turns : ℕ) (bytes : List ℕ)
+        → command_of words.now ≡ Some (Command.Unit turns) → D.seen disk ≡ Some bytes
+        → ¬ IsUnit (length bytes) bytes
+        → ¬ Rose (D.faults disk) (D.faults result.disk)
+        → result.status ≢ Status.NoMemory → result.status ≡ Status.NoUnit }
 {
     match command_of(words) {
         Some(Command::Replay) => {

@@ -3,7 +3,8 @@
 ghost use Rattle.std.specs.Prelude.{◌≡◌, ◌≢◌, ◌++◌, Some, None, OnOk, OnErr, IfOk, IfErr};
 ghost use Rattle.std.specs.Io.KnownBytes.{Appends};
 ghost use Rattle.world_spec.specs.Trace.{trace};
-ghost use Rattle.trace_lines.specs.Writing.{WritesFront, EndsRun};
+ghost use Rattle.whole_writes.specs.Writing.{WritesFront};
+ghost use Rattle.trace_lines.specs.Writing.{EndsRun};
 ghost use Rattle.omci_top.specs.Texts.{input_text};
 ghost use Rattle.omci_top.specs.Answers.{Ran, Told, Ends, AnswersReplay, StandsAfter};
 
@@ -19,7 +20,8 @@ use replay_script::{Script, ScriptRefusal, read};
 use resync_laws::copies_are_snapshots;
 use std::alloc::Global;
 use step_laws::copies_keep_step;
-use trace_lines::{RunFault, write_all};
+use trace_lines::RunFault;
+use whole_writes::write_all;
 use world_laws::commands_act_once;
 
 /// How a run of both ends over a script ended: the world that ran its events comes with `Done`

@@ -2,7 +2,8 @@
 
 ghost use Rattle.std.specs.Prelude.{◌≡◌, OnOk, OnErr, IfErr};
 ghost use Rattle.std.specs.Io.KnownBytes.{Appends};
-ghost use Rattle.trace_lines.specs.Writing.{WritesFront, EndsRun};
+ghost use Rattle.whole_writes.specs.Writing.{WritesFront};
+ghost use Rattle.trace_lines.specs.Writing.{EndsRun};
 ghost use Rattle.show_spec.specs.Shown.{count_text};
 ghost use Rattle.omci_top.specs.Answers.{Ran};
 ghost use Rattle.omci_top.specs.Shows.{AnswersShow, AnswersCheck};
@@ -13,7 +14,8 @@ use crate::streams::LARGEST_INPUT;
 use omci_core::{Sink, Source};
 use std::alloc::Global;
 use stream_show::{Counts, StreamEnd, push_count_text};
-use trace_lines::{RunFault, write_all};
+use trace_lines::RunFault;
+use whole_writes::write_all;
 
 /// Writes the text of each frame of a stream, and says where its first fault is.
 pub fn show<S: Source, K: Sink>(alloc: Global, source: &mut S, sink: &mut K) -> Status

@@ -12,6 +12,9 @@ pub const LARGEST_INPUT: usize = 16_777_216;
 /// How many bytes are read at a time.
 const PIECE_BYTES: usize = 65_536;
 
+/// How many bytes there is room for at first, so that shorter inputs are never moved.
+const FIRST_ROOM: usize = 1_048_576;
+
 /// Why a source was not read to its end.
 #[derive(Clone, Copy, Debug, PartialEq, Eq)]
 pub enum InputFault {
@@ -65,7 +68,7 @@ fn read_by<S: Source>(
     ensures end { IfErr result (EndsReading LARGEST_INPUT
         (S.left source.old) (S.left source.new) (S.faults source.old) (S.faults source.new)) }
 {
-    let mut bytes = Vec::new(alloc);
+    let mut bytes = Vec::with_capacity(alloc, FIRST_ROOM)?;
     loop {
         match source.read(piece) {
             Err(Failed) => return Err(InputFault::Read),

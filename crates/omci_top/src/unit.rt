@@ -1,9 +1,10 @@
 //! The command `unit`: the unit runs over a disk of image slots and a link.
 
-ghost use Rattle.std.specs.Prelude.{◌≡◌, ◌≢◌, ℕ, List, Some, None};
+ghost use Rattle.std.specs.Prelude.{◌≡◌, ◌≢◌, ℕ, List, length, Some, None};
 ghost use Rattle.omci_core.specs.Causes.{Rose};
 ghost use Rattle.slot_spec.specs.Slots.{SlotPair};
 ghost use Rattle.slot_spec.specs.Layout.{StandsAt};
+ghost use Rattle.image_store.specs.Starts.{IsUnit};
 ghost use Rattle.omci_top.specs.Units.{unit_status, AnswersUnit};
 
 use crate::End;
@@ -66,6 +67,10 @@ pub fn unit<K: Sink, D: Disk, L: Link>(
         → ¬ Rose (L.faults link.old) (L.faults link.new)
         → ¬ Rose (D.faults disk) (D.faults result.disk)
         → result.status ≢ Status.NoMemory → result.status ≡ Status.Done }
+    ensures refuses { (bytes : List ℕ) → D.seen disk ≡ Some bytes
+        → ¬ IsUnit (length bytes) bytes
+        → ¬ Rose (D.faults disk) (D.faults result.disk)
+        → result.status ≢ Status.NoMemory → result.status ≡ Status.NoUnit }
 {
     let ended = run_unit(alloc, address, file, turns, sink, disk, link);
     End {

@@ -12,6 +12,7 @@ use Rattle.unit_spec.specs.declared.Noticed.{Noticed}
 use Rattle.unit_spec.specs.Onu.{Onu, Snapshot, AlarmSnapshot}
 use Rattle.unit_spec.specs.Noticing.{Noticing}
 use Rattle.image_store.specs.Stands.{Kept as Images, StoreStands}
+use Rattle.frame_spec.specs.declared.TheConstants.{FRAME_BYTES}
 
 -- what a unit holds beside its images
 pub record Desk : Type 0 where
@@ -90,5 +91,5 @@ pub record Tells {D : Type 0} (seen : D → Option (List ℕ)) (may_leave : D �
 
 -- each kept reply is a baseline frame's 48 bytes
 pub record AreFrames (k : Kept) : Type 0 where
-  pub low : IfSome k.low (λ r. length r.packet ≡ 48)
-  pub high : IfSome k.high (λ r. length r.packet ≡ 48)
+  pub low : IfSome k.low (λ r. length r.packet ≡ FRAME_BYTES)
+  pub high : IfSome k.high (λ r. length r.packet ≡ FRAME_BYTES)

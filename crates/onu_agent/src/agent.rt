@@ -23,6 +23,8 @@ ghost use Rattle.onu_agent.specs.State.{AgentStands, Tells};
 ghost use Rattle.onu_agent.specs.Received.{Received};
 ghost use Rattle.onu_agent.specs.Starts.{not_mounted, given_back, is_fault, IsFaultOrMemory};
 ghost use Rattle.onu_agent.specs.Starts.{StartRefused};
+ghost use Rattle.frame_spec.specs.declared.TheConstants.{FRAME_BYTES};
+ghost use Rattle.slot_spec.specs.declared.TheConstants.{HEADER_BYTES};
 
 use crate::desk::Desk;
 use crate::unit::Unit;
@@ -129,10 +131,10 @@ impl<D: Disk> Agent<D> {
         ensures length { (bytes : List ℕ) → D.seen disk ≡ Some bytes
             → IfOk result (λ agent. (state : Form D) → agent.unit.images.state ≡ Some state
             → HasLength D.may_leave (length bytes) (state_disk state)) }
-        ensures short { size < 4096 → result ≡ Err (NoUnit disk size (replicate 8 0) 0) }
+        ensures short { size < HEADER_BYTES → result ≡ Err (NoUnit disk size (replicate 8 0) 0) }
         ensures found { (bytes : List ℕ) → D.seen disk ≡ Some bytes
             → OnOk result (IsUnit size bytes) }
-        ensures refused { (bytes : List ℕ) → D.seen disk ≡ Some bytes → 4096 ≤ size
+        ensures refused { (bytes : List ℕ) → D.seen disk ≡ Some bytes → HEADER_BYTES ≤ size
             → IfErr result (StartRefused size bytes) }
         ensures clear { (r : Rigged) → D.rig disk ≡ Some r → r.trap ≡ Clear
             → size ≡ length r.bytes → MatchResult result (λ agent. (state : Form D)
@@ -170,7 +172,8 @@ impl<D: Disk> Agent<D> {
             Received D.seen D.may_leave D.clock D.left_since D.rig D.faults self.old.unit
             self.new.unit d out.new bytes.now u) }
         ensures sound { OnOk result (self.new.spent ≡ false) }
-        ensures whole { IfOk result (λ d. d ≢ did.Dropped → d ≢ did.Held → length out.new ≡ 48) }
+        ensures whole { IfOk result (λ d. d ≢ did.Dropped → d ≢ did.Held
+            → length out.new ≡ FRAME_BYTES) }
         ensures memory { (u : Onu) → AgentStands D.seen D.may_leave self.old u
             → OnErr result (takes_memory bytes.now u ≡ true) }
         ensures spent { self.old.spent ≡ true → OnOk result ⊥ }
@@ -201,7 +204,7 @@ impl<D: Disk> Agent<D> {
             Tells D.seen D.may_leave self.new.unit n out.new
             (onu_sensed entity number value.now u)) }
         ensures sound { OnOk result (self.new.spent ≡ false) }
-        ensures whole { IfOk result (λ n. n ≡ noticed.Sent → length out.new ≡ 48) }
+        ensures whole { IfOk result (λ n. n ≡ noticed.Sent → length out.new ≡ FRAME_BYTES) }
         ensures memory { OnErr result (self.old.spent ≡ true) }
         ensures spent { self.old.spent ≡ true → OnOk result ⊥ }
         ensures spends { OnErr result (self.new.spent ≡ true) }
@@ -229,7 +232,7 @@ impl<D: Disk> Agent<D> {
         ensures alarmed { (u : Onu) → AgentStands D.seen D.may_leave self.old u → IfOk result (λ n.
             Tells D.seen D.may_leave self.new.unit n out.new (onu_alarmed entity bitmap u)) }
         ensures sound { OnOk result (self.new.spent ≡ false) }
-        ensures whole { IfOk result (λ n. n ≡ noticed.Sent → length out.new ≡ 48) }
+        ensures whole { IfOk result (λ n. n ≡ noticed.Sent → length out.new ≡ FRAME_BYTES) }
         ensures memory { (u : Onu) → AgentStands D.seen D.may_leave self.old u
             → OnErr result (alarm_takes entity bitmap u ≡ true) }
         ensures spent { self.old.spent ≡ true → OnOk result ⊥ }

@@ -13,6 +13,8 @@ use omci_core::NoMemory;
 use std::marker::Model;
 use unit_spec::SNAPSHOT_SECONDS;
 
+/// The alarms that the unit put by for an audit. The agent holds it; a get for a row and a second
+/// change it.
 #[derive(Drop)]
 pub struct Audit {
     snapshot: AlarmSnapshot,

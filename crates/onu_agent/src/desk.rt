@@ -26,7 +26,7 @@ use image_store::Handled;
 use mib_spec::Sensed;
 use omci_contents::{Request, Response};
 use omci_core::{EntityId, NoMemory, Packet, Software};
-use omci_frames::{Frame, encode};
+use omci_frames::{FRAME_BYTES, Frame, encode};
 use retry_cache::Kept;
 use std::alloc::Global;
 use std::marker::Model;
@@ -105,7 +105,7 @@ impl Desk {
     pub fn give_again(&self, tci: u16, out: &mut Packet) -> bool
         ensures found { result ≡ is_some (kept_for tci self.now.kept) }
         ensures given { result ≡ true → kept_for tci self.now.kept ≡ Some out.new }
-        ensures whole { result ≡ true → length out.new ≡ 48 }
+        ensures whole { result ≡ true → length out.new ≡ FRAME_BYTES }
     {
         match self.kept.find(tci) {
             None => false,
@@ -123,9 +123,9 @@ impl Desk {
           kept = kept_with tci (spelling reply.now) self.old.kept;
         } }
         ensures given { out.new ≡ spelling reply.now }
-        ensures whole { length out.new ≡ 48 }
+        ensures whole { length out.new ≡ FRAME_BYTES }
     {
-        let mut bytes = [0; 48];
+        let mut bytes = [0; FRAME_BYTES];
         encode(reply, &mut bytes);
         self.kept.keep(tci, &bytes);
         out.put(&bytes);
@@ -238,7 +238,7 @@ impl Desk {
         ensures packet { out.new ≡ (onu_sensed entity number value.now (alone self.old)).packet }
         ensures after { self.new
             ≡ desk_of (onu_sensed entity number value.now (alone self.old)).unit }
-        ensures whole { result ≡ noticed.Sent → length out.new ≡ 48 }
+        ensures whole { result ≡ noticed.Sent → length out.new ≡ FRAME_BYTES }
     {
         out.clear();
         match self.store.sense(entity, number, value) {
@@ -266,7 +266,7 @@ impl Desk {
             ≡ (onu_alarmed entity bitmap (alone self.old)).packet) }
         ensures after { OnOk result (self.new
             ≡ desk_of (onu_alarmed entity bitmap (alone self.old)).unit) }
-        ensures whole { IfOk result (λ n. n ≡ noticed.Sent → length out.new ≡ 48) }
+        ensures whole { IfOk result (λ n. n ≡ noticed.Sent → length out.new ≡ FRAME_BYTES) }
         ensures memory { OnErr result (alarm_takes entity bitmap (alone self.old) ≡ true) }
     {
         out.clear();

@@ -5,18 +5,13 @@ ghost use Rattle.message_spec.specs.Reading.{ResponseWindow};
 ghost use Rattle.unit_spec.specs.Onu.{response_frame, refusal_frame, asks_nothing};
 ghost use Rattle.unit_spec.specs.Onu.{has_request_bits};
 
+use message_spec::{AK, AR, TYPE_BITS};
 use omci_contents::{Message, Request, Response, write_message};
 use omci_core::Code;
 use omci_frames::Frame;
 
-/// AR in a type byte less AK.
-const AR_LESS_AK: u8 = 0x20;
-
 /// What stands above the message type in a type byte counts from here.
-const FLAGS: u8 = 0x20;
-
-/// AR alone there.
-const AR: u8 = 2;
+const FLAGS: u8 = TYPE_BITS + 1;
 
 /// Whether the request is a section that isn't its window's last, which asks for no reply.
 pub fn is_quiet(request: &Request) -> bool
@@ -29,7 +24,7 @@ pub fn is_quiet(request: &Request) -> bool
 pub fn is_request(kind: u8) -> bool
     ensures value { result ≡ has_request_bits kind }
 {
-    kind / FLAGS == AR
+    kind / FLAGS == AR / FLAGS
 }
 
 /// The response to a request of a type that the unit doesn't carry out.
@@ -39,7 +34,7 @@ pub fn refusal_of(frame: &Frame) -> Frame
     let mut contents = [0; 32];
     contents[0] = Code::NOT_SUPPORTED.0;
     Frame {
-        kind: frame.kind.saturating_sub(AR_LESS_AK),
+        kind: frame.kind.saturating_sub(AR - AK),
         contents,
         ..*frame
     }

@@ -12,7 +12,7 @@ ghost use Rattle.unit_spec.specs.Onu.{code};
 ghost use Rattle.unit_spec.specs.Noticing.{has_alarms, may_alarm};
 ghost use Rattle.unit_laws.specs.Own.{may_have};
 
-use class_spec::CREATE_ROOM;
+use class_spec::{CREATE_ROOM, ONU_DATA};
 use entity_classes::class;
 use mib_spec::Sensed;
 use mib_store::{Mask, Mib};
@@ -20,15 +20,12 @@ use omci_contents::Response;
 use omci_core::{Code, EntityId, NoMemory, Software};
 use std::alloc::Global;
 use std::marker::Model;
+use unit_spec::ONU_G;
 
-/// The class of ONU data.
-const ONU_DATA: u16 = 2;
-
-/// The classes that have alarms: PPTP Ethernet UNI, ONU-G, T-CONT.
+/// The class of PPTP Ethernet UNI.
 const ETHERNET_UNI: u16 = 11;
 
-const ONU_G: u16 = 256;
-
+/// The class of T-CONT.
 const T_CONT: u16 = 262;
 
 /// The database. Of the classes that the unit makes, it has no other entities than those of its
@@ -130,7 +127,7 @@ impl Store {
         if class(entity.class).is_none() {
             return Code::UNKNOWN_CLASS;
         }
-        if entity.class != ONU_DATA {
+        if entity.class != ONU_DATA.class {
             return Code::NOT_SUPPORTED;
         }
         if entity.instance != 0 {
@@ -172,5 +169,5 @@ impl Store {
 fn has_alarms(class: u16) -> bool
     ensures value { result ≡ has_alarms class }
 {
-    matches!(class, ETHERNET_UNI | ONU_G | T_CONT)
+    class == ETHERNET_UNI || class == ONU_G.class || class == T_CONT
 }

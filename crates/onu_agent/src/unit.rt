@@ -22,6 +22,7 @@ ghost use Rattle.image_store.specs.Counts.{StoreCounts, store_faults};
 ghost use Rattle.onu_agent.specs.State.{UnitStands, Tells};
 ghost use Rattle.onu_agent.specs.Received.{Came, Received, CarriedOut};
 ghost use Rattle.onu_agent.specs.Images.{is_for_image};
+ghost use Rattle.frame_spec.specs.declared.TheConstants.{FRAME_BYTES};
 
 use crate::deed::{Deed, plain_deed};
 use crate::desk::Desk;
@@ -72,7 +73,8 @@ impl<D: Disk> Unit<D> {
         ensures received { (u : Onu) → UnitStands D.seen D.may_leave self.old u → IfOk result (λ d.
             Received D.seen D.may_leave D.clock D.left_since D.rig D.faults self.old self.new d
             out.new bytes.now u) }
-        ensures whole { IfOk result (λ d. d ≢ did.Dropped → d ≢ did.Held → length out.new ≡ 48) }
+        ensures whole { IfOk result (λ d. d ≢ did.Dropped → d ≢ did.Held
+            → length out.new ≡ FRAME_BYTES) }
         ensures memory { (u : Onu) → UnitStands D.seen D.may_leave self.old u
             → OnErr result (takes_memory bytes.now u ≡ true) }
         ensures images { OnErr result (self.new.images ≡ self.old.images) }
@@ -96,7 +98,8 @@ impl<D: Disk> Unit<D> {
             Came D.seen D.may_leave D.clock D.left_since D.rig D.faults self.old self.new d out.new
             (λ fails. for_message fails read.now frame.now u)
             (message_deed read.now frame.now u) u) }
-        ensures whole { IfOk result (λ d. d ≢ did.Dropped → d ≢ did.Held → length out.new ≡ 48) }
+        ensures whole { IfOk result (λ d. d ≢ did.Dropped → d ≢ did.Held
+            → length out.new ≡ FRAME_BYTES) }
         ensures memory { (u : Onu) → UnitStands D.seen D.may_leave self.old u
             → OnErr result (message_takes read.now frame.now u ≡ true) }
         ensures images { OnErr result (self.new.images ≡ self.old.images) }
@@ -125,7 +128,8 @@ impl<D: Disk> Unit<D> {
             (λ fails. unless_quiet (asks_nothing request.now) fails frame.now request.now u)
             (deed_unless_kept (kept_for frame.now.tci u.kept) u.leaving
             (image_deed frame.now request.now u)) u) }
-        ensures whole { IfOk result (λ d. d ≢ did.Dropped → d ≢ did.Held → length out.new ≡ 48) }
+        ensures whole { IfOk result (λ d. d ≢ did.Dropped → d ≢ did.Held
+            → length out.new ≡ FRAME_BYTES) }
         ensures memory { (u : Onu) → UnitStands D.seen D.may_leave self.old u → OnErr result
             (message_takes (Ok (message.Asked frame.now.tci frame.now.entity request.now))
             frame.now u ≡ true) }
@@ -173,7 +177,7 @@ impl<D: Disk> Unit<D> {
         ensures came { (u : Onu) → UnitStands D.seen D.may_leave self.old u
             → Came D.seen D.may_leave D.clock D.left_since D.rig D.faults self.old self.new result
             out.new (λ fails. if_request (has_request_bits frame.now.kind) frame.now u) Ignore u }
-        ensures whole { result ≢ did.Dropped → length out.new ≡ 48 }
+        ensures whole { result ≢ did.Dropped → length out.new ≡ FRAME_BYTES }
         ensures count { StoreCounts D.faults self.old.images self.new.images }
     {
         if !is_request(frame.kind) {
@@ -269,7 +273,7 @@ impl<D: Disk> Unit<D> {
         ensures sensed { (u : Onu) → UnitStands D.seen D.may_leave self.old u
             → Tells D.seen D.may_leave self.new result out.new
             (onu_sensed entity number value.now u) }
-        ensures whole { result ≡ noticed.Sent → length out.new ≡ 48 }
+        ensures whole { result ≡ noticed.Sent → length out.new ≡ FRAME_BYTES }
         ensures images { self.new.images ≡ self.old.images }
     {
         if self.leaves() {
@@ -289,7 +293,7 @@ impl<D: Disk> Unit<D> {
     ) -> Result<Noticed, NoMemory>
         ensures alarmed { (u : Onu) → UnitStands D.seen D.may_leave self.old u → IfOk result (λ n.
             Tells D.seen D.may_leave self.new n out.new (onu_alarmed entity bitmap u)) }
-        ensures whole { IfOk result (λ n. n ≡ noticed.Sent → length out.new ≡ 48) }
+        ensures whole { IfOk result (λ n. n ≡ noticed.Sent → length out.new ≡ FRAME_BYTES) }
         ensures memory { (u : Onu) → UnitStands D.seen D.may_leave self.old u
             → OnErr result (alarm_takes entity bitmap u ≡ true) }
         ensures images { self.new.images ≡ self.old.images }

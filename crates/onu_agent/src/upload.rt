@@ -14,6 +14,8 @@ use std::alloc::Global;
 use std::marker::Model;
 use unit_spec::{Note, SNAPSHOT_SECONDS};
 
+/// The database that the unit put by for an upload. The agent holds it; a get for a piece and a
+/// second change it.
 #[derive(Drop)]
 pub struct Upload {
     snapshot: Snapshot,

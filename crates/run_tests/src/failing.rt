@@ -11,8 +11,25 @@ use std::alloc::Global;
 use std::test::Fail;
 
 /// A script of many kinds of lines.
-const SCRIPT: &[u8] =
-    b"# every kind of line\nomci 1 4096 1 1 ff\nprobe low\nflow 2\ncreate low 272 5 0030\r\nflow 2\nset low 272 5 8000 0040\nflow 2\nget low 272 5 8000\ndeliver 6\ndeliver 6\nflow 9\ndelete low 272 5\nflow 2\nreset low\nflow 2\nget low 272 5 8000\nflow 2\ndeliver 99";
+const SCRIPT: &[u8] = b"# every kind of line\n\
+    omci 1 4096 1 1 ff\n\
+    probe low\n\
+    flow 2\n\
+    create low 272 5 0030\r\n\
+    flow 2\n\
+    set low 272 5 8000 0040\n\
+    flow 2\n\
+    get low 272 5 8000\n\
+    deliver 6\n\
+    deliver 6\n\
+    flow 9\n\
+    delete low 272 5\n\
+    flow 2\n\
+    reset low\n\
+    flow 2\n\
+    get low 272 5 8000\n\
+    flow 2\n\
+    deliver 99";
 
 /// One read gives the script, and one finds its end.
 const READS: u64 = 2;

@@ -13,8 +13,22 @@ struct Row {
 const ROWS: [Row; 9] = [
     // A probe and a get.
     Row {
-        script: b"omci 1 4096 1 1 ff\nprobe low\ndeliver 0\ndeliver 1\nget low 2 0 8000\ndeliver 2\ndeliver 3\n",
-        written: b"0 unit 1 0 0 1:000000ff -\n1 sent 0 down 0001 0a get 2 0 80\n2 carried 1\n2 sent 1 up 0001 0a get-r 2 0 0080\n3 proved low\n4 sent 2 down 0002 0a get 2 0 80\n5 carried 1\n5 sent 3 up 0002 0a get-r 2 0 0080\n6 took 0002 0a get-r 2 0 0080\n",
+        script: b"omci 1 4096 1 1 ff\n\
+            probe low\n\
+            deliver 0\n\
+            deliver 1\n\
+            get low 2 0 8000\n\
+            deliver 2\n\
+            deliver 3\n",
+        written: b"0 unit 1 0 0 1:000000ff -\n\
+            1 sent 0 down 0001 0a get 2 0 80\n\
+            2 carried 1\n\
+            2 sent 1 up 0001 0a get-r 2 0 0080\n\
+            3 proved low\n\
+            4 sent 2 down 0002 0a get 2 0 80\n\
+            5 carried 1\n\
+            5 sent 3 up 0002 0a get-r 2 0 0080\n\
+            6 took 0002 0a get-r 2 0 0080\n",
     },
     // Nothing but a probe goes over a lane that isn't proved.
     Row {
@@ -24,39 +38,135 @@ const ROWS: [Row; 9] = [
     // One command at a time.
     Row {
         script: b"omci 1 4096 1 1 ff\nprobe low\nprobe low\n",
-        written: b"0 unit 1 0 0 1:000000ff -\n1 sent 0 down 0001 0a get 2 0 80\n2 refused occupied 0001\n",
+        written: b"0 unit 1 0 0 1:000000ff -\n\
+            1 sent 0 down 0001 0a get 2 0 80\n\
+            2 refused occupied 0001\n",
     },
     // A reply that comes again is dropped, and what was never sent can't be delivered.
     Row {
         script: b"omci 1 4096 1 1 ff\nprobe low\ndeliver 0\ndeliver 1\ndeliver 1\ndeliver 9\n",
-        written: b"0 unit 1 0 0 1:000000ff -\n1 sent 0 down 0001 0a get 2 0 80\n2 carried 1\n2 sent 1 up 0001 0a get-r 2 0 0080\n3 proved low\n4 dropped\n5 not enabled\n",
+        written: b"0 unit 1 0 0 1:000000ff -\n\
+            1 sent 0 down 0001 0a get 2 0 80\n\
+            2 carried 1\n\
+            2 sent 1 up 0001 0a get-r 2 0 0080\n\
+            3 proved low\n\
+            4 dropped\n\
+            5 not enabled\n",
     },
     // A request that comes again is answered by the kept reply.
     Row {
-        script: b"omci 1 4096 1 1 ff\nprobe low\ndeliver 0\ndeliver 0\ndeliver 1\ndeliver 2\ndeliver 9\n",
-        written: b"0 unit 1 0 0 1:000000ff -\n1 sent 0 down 0001 0a get 2 0 80\n2 carried 1\n2 sent 1 up 0001 0a get-r 2 0 0080\n3 kept\n3 sent 2 up 0001 0a get-r 2 0 0080\n4 proved low\n5 dropped\n6 not enabled\n",
+        script: b"omci 1 4096 1 1 ff\n\
+            probe low\n\
+            deliver 0\n\
+            deliver 0\n\
+            deliver 1\n\
+            deliver 2\n\
+            deliver 9\n",
+        written: b"0 unit 1 0 0 1:000000ff -\n\
+            1 sent 0 down 0001 0a get 2 0 80\n\
+            2 carried 1\n\
+            2 sent 1 up 0001 0a get-r 2 0 0080\n\
+            3 kept\n\
+            3 sent 2 up 0001 0a get-r 2 0 0080\n\
+            4 proved low\n\
+            5 dropped\n\
+            6 not enabled\n",
     },
     // A manager that starts again probes under a number that the unit keeps a reply of: the reset
     // isn't carried out again.
     Row {
-        script: b"omci 1 4096 1 1 ff\nprobe low\nflow 2\nreset low\nflow 2\ncut olt\nstart olt 2 1\nprobe low\nflow 2\nreset low\nflow 2\n",
-        written: b"0 unit 1 0 0 1:000000ff -\n1 sent 0 down 0001 0a get 2 0 80\n2 carried 1\n2 sent 1 up 0001 0a get-r 2 0 0080\n2 proved low\n3 sent 2 down 0002 0a reset 2 0 -\n4 carried 1\n4 sent 3 up 0002 0a reset-r 2 0 -\n4 took 0002 0a reset-r 2 0 -\n7 sent 4 down 0002 0a get 2 0 80\n8 kept\n8 sent 5 up 0002 0a reset-r 2 0 -\n8 proved low\n9 sent 6 down 0003 0a reset 2 0 -\n10 carried 1\n10 sent 7 up 0003 0a reset-r 2 0 -\n10 took 0003 0a reset-r 2 0 -\n",
+        script: b"omci 1 4096 1 1 ff\n\
+            probe low\n\
+            flow 2\n\
+            reset low\n\
+            flow 2\n\
+            cut olt\n\
+            start olt 2 1\n\
+            probe low\n\
+            flow 2\n\
+            reset low\n\
+            flow 2\n",
+        written: b"0 unit 1 0 0 1:000000ff -\n\
+            1 sent 0 down 0001 0a get 2 0 80\n\
+            2 carried 1\n\
+            2 sent 1 up 0001 0a get-r 2 0 0080\n\
+            2 proved low\n\
+            3 sent 2 down 0002 0a reset 2 0 -\n\
+            4 carried 1\n\
+            4 sent 3 up 0002 0a reset-r 2 0 -\n\
+            4 took 0002 0a reset-r 2 0 -\n\
+            7 sent 4 down 0002 0a get 2 0 80\n\
+            8 kept\n\
+            8 sent 5 up 0002 0a reset-r 2 0 -\n\
+            8 proved low\n\
+            9 sent 6 down 0003 0a reset 2 0 -\n\
+            10 carried 1\n\
+            10 sent 7 up 0003 0a reset-r 2 0 -\n\
+            10 took 0003 0a reset-r 2 0 -\n",
     },
     // A high command is sent again after each second and given up at the third; a packet below the
     // floor comes no more.
     Row {
-        script: b"omci 1 4096 1 1 ff\nprobe high\ntick\ntick\ntick\ndeliver 1\ndeliver 3\ndeliver 0\ndeliver 2\ndeliver 9\n",
-        written: b"0 unit 1 0 0 1:000000ff -\n1 sent 0 down 8001 0a get 2 0 80\n2 sent 1 down 8001 0a get 2 0 80\n3 sent 2 down 8001 0a get 2 0 80\n4 gave up 8001\n5 carried 1\n5 sent 3 up 8001 0a get-r 2 0 0080\n6 dropped\n7 not enabled\n8 kept\n8 sent 4 up 8001 0a get-r 2 0 0080\n9 not enabled\n",
+        script: b"omci 1 4096 1 1 ff\n\
+            probe high\n\
+            tick\n\
+            tick\n\
+            tick\n\
+            deliver 1\n\
+            deliver 3\n\
+            deliver 0\n\
+            deliver 2\n\
+            deliver 9\n",
+        written: b"0 unit 1 0 0 1:000000ff -\n\
+            1 sent 0 down 8001 0a get 2 0 80\n\
+            2 sent 1 down 8001 0a get 2 0 80\n\
+            3 sent 2 down 8001 0a get 2 0 80\n\
+            4 gave up 8001\n\
+            5 carried 1\n\
+            5 sent 3 up 8001 0a get-r 2 0 0080\n\
+            6 dropped\n\
+            7 not enabled\n\
+            8 kept\n\
+            8 sent 4 up 8001 0a get-r 2 0 0080\n\
+            9 not enabled\n",
     },
     // Each refusal, in the order in which they are tested.
     Row {
-        script: b"omci 1 4096 1 1 ff\ncreate low 272 5 0030\nprobe low\nget low 2 0 8000\nflow 2\ncreate low 272 5 0030\nget low 2 0 8000\nget low 2 0 8000\nresync\n",
-        written: b"0 unit 1 0 0 1:000000ff -\n1 refused unproven low\n2 sent 0 down 0001 0a get 2 0 80\n3 refused unproven low\n4 carried 1\n4 sent 1 up 0001 0a get-r 2 0 0080\n4 proved low\n5 refused out-of-step new\n6 sent 2 down 0002 0a get 2 0 80\n7 refused occupied 0002\n8 refused occupied 0002\n",
+        script: b"omci 1 4096 1 1 ff\n\
+            create low 272 5 0030\n\
+            probe low\n\
+            get low 2 0 8000\n\
+            flow 2\n\
+            create low 272 5 0030\n\
+            get low 2 0 8000\n\
+            get low 2 0 8000\n\
+            resync\n",
+        written: b"0 unit 1 0 0 1:000000ff -\n\
+            1 refused unproven low\n\
+            2 sent 0 down 0001 0a get 2 0 80\n\
+            3 refused unproven low\n\
+            4 carried 1\n\
+            4 sent 1 up 0001 0a get-r 2 0 0080\n\
+            4 proved low\n\
+            5 refused out-of-step new\n\
+            6 sent 2 down 0002 0a get 2 0 80\n\
+            7 refused occupied 0002\n\
+            8 refused occupied 0002\n",
     },
     // One change at a time over both lanes.
     Row {
         script: b"omci 1 4096 1 1 ff\nprobe low\nprobe high\nflow 4\nreset low\nreset high\n",
-        written: b"0 unit 1 0 0 1:000000ff -\n1 sent 0 down 0001 0a get 2 0 80\n2 sent 1 down 8001 0a get 2 0 80\n3 carried 1\n3 sent 2 up 0001 0a get-r 2 0 0080\n3 carried 1\n3 sent 3 up 8001 0a get-r 2 0 0080\n3 proved low\n3 proved high\n4 sent 4 down 0002 0a reset 2 0 -\n5 refused change 0002\n",
+        written: b"0 unit 1 0 0 1:000000ff -\n\
+            1 sent 0 down 0001 0a get 2 0 80\n\
+            2 sent 1 down 8001 0a get 2 0 80\n\
+            3 carried 1\n\
+            3 sent 2 up 0001 0a get-r 2 0 0080\n\
+            3 carried 1\n\
+            3 sent 3 up 8001 0a get-r 2 0 0080\n\
+            3 proved low\n\
+            3 proved high\n\
+            4 sent 4 down 0002 0a reset 2 0 -\n\
+            5 refused change 0002\n",
     },
 ];
 

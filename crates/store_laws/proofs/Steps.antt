@@ -16,7 +16,7 @@ use Rattle.slot_spec.specs.Slots.{SlotPair, Keep, image_at, with_image, after_ch
 use Rattle.window_spec.specs.declared.Arrived.{Arrived}
 use Rattle.window_spec.specs.declared.Arrived.TheVariants as arrived
 use Rattle.window_spec.specs.Incoming.{section, Section, answer, no_window}
-use Rattle.store_spec.specs.declared.TheConstants.{IMAGE_CLASS}
+use Rattle.window_spec.specs.declared.TheConstants.{IMAGE_CLASS}
 use Rattle.store_spec.specs.History.{Ledger, with_entries}
 use Rattle.store_spec.specs.State.{Loading, StoreState, has_image, store_started}
 use Rattle.store_spec.specs.Deeds.{Deed, slot_deed, refuse, Ignore, Refuse, RefuseWindow, GiveUp}

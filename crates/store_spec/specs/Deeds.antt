@@ -15,7 +15,8 @@ use Rattle.window_spec.specs.declared.TheConstants.{SECTION_BYTES}
 use Rattle.window_spec.specs.declared.Arrived.{Arrived}
 use Rattle.window_spec.specs.declared.Arrived.TheVariants as arrived
 use Rattle.window_spec.specs.Incoming.{Section, section, Window, answer}
-use Rattle.store_spec.specs.declared.TheConstants.{IMAGE_CLASS, IMAGES, MOST_GRANTED, MOST_TARGETS}
+use Rattle.window_spec.specs.declared.TheConstants.{IMAGE_CLASS}
+use Rattle.store_spec.specs.declared.TheConstants.{IMAGES, MOST_GRANTED, MOST_TARGETS}
 use Rattle.store_spec.specs.State.{Loading, StoreState, has_image, window_after}
 
 pub data Deed : Type 0 where

@@ -6,9 +6,6 @@
 
 use omci_types::Code;
 
-/// The class of the software images.
-pub const IMAGE_CLASS: u16 = 7;
-
 /// The number of software images: their instances are below it.
 pub const IMAGES: u16 = 2;
 

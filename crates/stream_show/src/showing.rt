@@ -43,7 +43,8 @@ fn write_enough<K: Sink>(lines: &mut Vec<u8>, sink: &mut K) -> Result<(), Stream
 #[tactic(auto, unfolding(show_spec::specs::Shown::frame_line))]
 fn push_line(lines: &mut Vec<u8>, bytes: &[u8]) -> Result<(), NoMemory>
     requires sound { any_fault_of bytes.now ≡ None }
-    ensures line { OnOk result (lines.new.items ≡ lines.old.items ++ frame_line (any_of bytes.now)) }
+    ensures line { OnOk result
+        (lines.new.items ≡ lines.old.items ++ frame_line (any_of bytes.now)) }
 {
     push_front_text(lines, bytes)?;
     push_bytes(lines, b"\n")

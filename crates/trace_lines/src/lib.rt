@@ -10,4 +10,4 @@ mod writing;
 pub use lines::Lines;
 pub use reports::push_reports;
 pub use texts::{push_carried_line, push_line, push_sent_line};
-pub use writing::{RunFault, write_all, write_piece};
+pub use writing::{RunFault, write_piece};

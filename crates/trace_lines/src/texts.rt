@@ -405,7 +405,8 @@ fn append_direction(line: &mut ShortText, direction: Direction)
 #[tactic(auto, unfolding(world_spec::specs::Trace::effect_text))]
 fn append_sent(line: &mut ShortText, number: u64, direction: Direction, frame: &Frame)
     requires room { length line.old + EFFECT_BYTES ≤ SHORT_TEXT_BYTES }
-    ensures text { line.new ≡ line.old ++ effect_text (effect.PacketSent number direction frame.now) }
+    ensures text { line.new ≡
+        line.old ++ effect_text (effect.PacketSent number direction frame.now) }
     ensures grown { length line.new ≤ length line.old + EFFECT_BYTES }
 {
     line.append(b"sent ");
@@ -515,7 +516,8 @@ fn push_copied(
     mask: u16,
     values: &[u8],
 ) -> Result<(), NoMemory>
-    ensures text { OnOk result (out.new.items ≡ out.old.items ++ entry_text entity mask values.now) }
+    ensures text { OnOk result
+        (out.new.items ≡ out.old.items ++ entry_text entity mask values.now) }
 {
     push_bytes(out, b"copy ")?;
     push_entity(out, entity)?;

@@ -1,13 +1,14 @@
 //! Lines that are gathered and written to a sink, and what ends a run before its end.
 
 ghost use Rattle.std.specs.Prelude.{◌≡◌, OnOk, OnErr};
-ghost use Rattle.std.specs.Io.KnownBytes.{Appends};
 ghost use Rattle.omci_core.specs.Causes.{Rose};
-ghost use Rattle.trace_lines.specs.Writing.{WritesSome, WritesFront, BreaksOff};
+ghost use Rattle.whole_writes.specs.Writing.{WritesFront, BreaksOff};
+ghost use Rattle.trace_lines.specs.Writing.{WritesSome};
 
 use crate::lines::Lines;
 use omci_core::{Failed, NoMemory, Sink};
 use std::alloc::AllocError;
+use whole_writes::write_all;
 
 /// So many bytes of lines are gathered before they are written.
 const PIECE_BYTES: usize = 65_536;
@@ -52,21 +53,6 @@ impl From<Failed> for RunFault {
     fn from(_error: Failed) -> RunFault {
         RunFault::Write
     }
-}
-
-/// Writes all of the bytes to the sink, which may take them in parts. `Failed` where the sink
-/// fails; then a front of them was written.
-pub fn write_all<K: Sink>(sink: &mut K, bytes: &[u8]) -> Result<(), Failed>
-    ensures whole { OnOk result (Appends (K.written sink.old) (K.written sink.new) bytes.now) }
-    ensures kept { OnOk result (K.faults sink.new ≡ K.faults sink.old) }
-    ensures broken { OnErr result (BreaksOff bytes.now (K.written sink.old) (K.written sink.new)
-        (K.faults sink.old) (K.faults sink.new)) }
-{
-    let mut place = 0;
-    while place < bytes.len() {
-        place += sink.write(&bytes[place..])?;
-    }
-    Ok(())
 }
 
 /// Writes the gathered lines where they are enough for a piece.

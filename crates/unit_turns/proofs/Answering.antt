@@ -8,7 +8,7 @@ use Rattle.unit_spec.specs.declared.Did.{Did}
 use Rattle.unit_spec.specs.Onu.{Onu, onu_received}
 use Rattle.onu_agent.specs.State.{State}
 use Rattle.onu_agent.specs.Received.{Received}
-use Rattle.trace_lines.specs.Writing.{BreaksOff}
+use Rattle.whole_writes.specs.Writing.{BreaksOff}
 use Rattle.turn_spec.specs.UnitTurns.{reply_of}
 use Rattle.omci_link.specs.Arrivals.{sent_after}
 use Rattle.unit_turns.specs.Taking.{PacketTaken, LineBroken, sent_more}

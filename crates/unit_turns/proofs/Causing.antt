@@ -4,7 +4,7 @@ use Rattle.omci_core.specs.Causes.{Rose}
 use Rattle.onu_agent.specs.declared.agent.StartRefusal.{StartRefusal}
 use Rattle.onu_agent.specs.declared.agent.StartRefusal.TheVariants as refused
 use Rattle.unit_turns.specs.Ending.{CausedBy, TurnCausedBy, StartCause, StartCausedBy}
-use Rattle.unit_turns.specs.Ending.{refusal_status}
+use Rattle.unit_turns.specs.Ending.{EndsBare, refusal_status}
 use Rattle.unit_turns.specs.declared.ending.UnitStatus.{UnitStatus}
 use Rattle.unit_turns.specs.declared.ending.UnitStatus.TheVariants.{Done, DiskFault, NoUnit}
 use Rattle.unit_turns.specs.declared.ending.UnitStatus.TheVariants.{LinkFault, WriteFault, NoMemory}
@@ -70,6 +70,18 @@ pub refused_caused : {D : Type 0} (refusal : StartRefusal D) (status : UnitStatu
     → status ≡ refusal_status refusal → StartCause status a a
 refused_caused refusal status a is =
     subst (λ (x : UnitStatus). StartCause x a a) (sym is) (refused_by refusal a)
+
+bare_by : {D : Type 0} (refusal : StartRefusal D) → EndsBare (refusal_status refusal)
+bare_by (refused.NoUnit disk length magic room) = tt
+bare_by (refused.Fault disk) = tt
+bare_by (refused.NoImage disk slot gate size) = tt
+bare_by (refused.NoMemory disk) = tt
+
+-- a refused start is how a run ends on a disk of no unit
+pub refused_bare : {D : Type 0} (refusal : StartRefusal D) (status : UnitStatus)
+    → status ≡ refusal_status refusal → EndsBare status
+refused_bare refusal status is =
+    subst (λ (x : UnitStatus). EndsBare x) (sym is) (bare_by refusal)
 
 pub write_caused : (status : UnitStatus) (a b : ℕ) → status ≡ WriteFault → Rose a b
     → StartCause status a b

@@ -58,6 +58,20 @@ DiskCounts faults (Ok unit) before =
     Counted before (store_faults faults unit.agent.unit.images)
 DiskCounts faults (Err end) before = DiskCausedBy end.status before (faults end.disk)
 
+-- how a run ends on a disk that told bytes of no unit
+abbrev pub EndsBare : UnitStatus → Type 0
+EndsBare Done = ⊥
+EndsBare DiskFault = Unit {0}
+EndsBare NoUnit = Unit {0}
+EndsBare LinkFault = ⊥
+EndsBare WriteFault = ⊥
+EndsBare NoMemory = Unit {0}
+
+-- the same of a start, which never goes on there
+abbrev pub StartsBare : {D : Type 0} → Result (running.Running D) (ending.UnitEnd D) → Type 0
+StartsBare (Ok unit) = ⊥
+StartsBare (Err end) = EndsBare end.status
+
 -- one event, or none
 abbrev pub IsOneAtMost : List Arrival → Type 0
 IsOneAtMost [] = Unit {0}

@@ -8,12 +8,13 @@ ghost use Rattle.unit_spec.specs.Onu.{Onu};
 ghost use Rattle.image_store.specs.declared.state.State.{State as Form};
 ghost use Rattle.image_store.specs.Stands.{state_disk};
 ghost use Rattle.image_store.specs.Counts.{store_faults};
+ghost use Rattle.image_store.specs.Starts.{IsUnit};
 ghost use Rattle.onu_agent.specs.State.{AgentStands};
 ghost use Rattle.onu_agent.specs.Starts.{given_back};
 ghost use Rattle.turn_spec.specs.Arrivals.{Arrival as Given, Came, Quiet};
 ghost use Rattle.turn_spec.specs.UnitTurns.{Turn, slots_found};
 ghost use Rattle.unit_turns.specs.Running.{UnitRuns, Shown, Before, TookOne};
-ghost use Rattle.unit_turns.specs.Ending.{StartComes, StartCausedBy, refusal_status};
+ghost use Rattle.unit_turns.specs.Ending.{StartComes, StartCausedBy, StartsBare, refusal_status};
 ghost use Rattle.unit_turns.specs.Ending.{TurnEnds, TurnCausedBy, RunEnds, CausedBy};
 ghost use Rattle.unit_turns.specs.Ending.{DiskCounts, DiskCausedBy};
 
@@ -87,6 +88,8 @@ pub fn start<K: Sink, D: Disk>(
         → size ≡ length bytes → StandsAt room bytes s
         → StartComes D.seen D.may_leave D.clock D.left_since D.rig D.faults result room size turn
         life boot s disk (K.written sink.old) (K.written sink.new) }
+    ensures bare { (bytes : List ℕ) → D.seen disk ≡ Some bytes → ¬ IsUnit size bytes
+        → StartsBare result × (sink.new ≡ sink.old) }
     ensures lives { IfOk result (λ unit. unit.life ≡ life) }
     ensures cause { StartCausedBy result (K.faults sink.old) (K.faults sink.new) }
     ensures count { DiskCounts D.faults result (D.faults disk) }

@@ -6,7 +6,8 @@ ghost use Rattle.unit_turns.specs.Taking.{WritesLine};
 
 use omci_core::{Sink, Software};
 use std::alloc::Global;
-use trace_lines::{Lines, RunFault, push_line, write_all};
+use trace_lines::{Lines, RunFault, push_line};
+use whole_writes::write_all;
 use world_spec::Effect;
 
 /// Writes the line of a unit that starts in a turn, in its so manieth life.

@@ -1,9 +1,10 @@
 //! The whole run of a unit alone.
 
-ghost use Rattle.std.specs.Prelude.{◌≡◌, ℕ, List, Option, Some};
+ghost use Rattle.std.specs.Prelude.{◌≡◌, ℕ, List, length, Option, Some};
 ghost use Rattle.slot_spec.specs.Slots.{SlotPair};
 ghost use Rattle.slot_spec.specs.Layout.{StandsAt};
-ghost use Rattle.unit_turns.specs.Ending.{CausedBy, DiskCausedBy, UnitEnds};
+ghost use Rattle.image_store.specs.Starts.{IsUnit};
+ghost use Rattle.unit_turns.specs.Ending.{CausedBy, DiskCausedBy, EndsBare, UnitEnds};
 
 use crate::ending::{UnitEnd, UnitStatus};
 use crate::running::{end_of, run_turns, start};
@@ -32,6 +33,8 @@ pub fn run_unit<K: Sink, D: Disk, L: Link>(
         → UnitEnds D.seen D.may_leave D.clock D.left_since D.faults result.status room s0 turns
         disk result.disk (L.left link.old) (L.left link.new) (L.sent link.old) (L.sent link.new)
         (K.written sink.old) (K.written sink.new) }
+    ensures bare { (bytes : List ℕ) → D.seen disk ≡ Some bytes → ¬ IsUnit (length bytes) bytes
+        → EndsBare result.status × (link.new ≡ link.old) × (sink.new ≡ sink.old) }
     ensures cause { CausedBy result.status (L.faults link.old) (L.faults link.new)
         (K.faults sink.old) (K.faults sink.new) }
     ensures disk_cause { DiskCausedBy result.status (D.faults disk) (D.faults result.disk) }

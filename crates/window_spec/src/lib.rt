@@ -7,6 +7,9 @@
 
 pub use message_spec::MAX_WINDOW;
 
+/// The class of software images: the instance is the slot (ITU-T G.988, clause 9.1.4).
+pub const IMAGE_CLASS: u16 = 7;
+
 /// The bytes of a section in a baseline message.
 pub const SECTION_BYTES: usize = 31;
 

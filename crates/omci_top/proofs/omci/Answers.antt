@@ -170,6 +170,10 @@ pub returns-in-Some-Unit-clause-unit_runs : goal.returns-in-Some-Unit-clause-uni
 returns-in-Some-Unit-clause-unit_runs g c = λ turns room slots bytes words told stands calm_sink calm_link calm_disk some.
     c.unit.ensures.runs room slots bytes told stands calm_sink calm_link calm_disk some
 
+pub returns-in-Some-Unit-clause-unit_refuses : goal.returns-in-Some-Unit-clause-unit_refuses
+returns-in-Some-Unit-clause-unit_refuses g c = λ turns bytes words told other calm some.
+    c.unit.ensures.refuses bytes told other calm some
+
 pub returns-in-Some-Unit-clause-show_stops : goal.returns-in-Some-Unit-clause-show_stops
 returns-in-Some-Unit-clause-show_stops g c = λ frames bytes words told long has calm_source calm_sink some.
     let is = c.in-Some-Unit.ensures.value in let which = c.in-Some-Unit.field-0-is in absurd (cc)

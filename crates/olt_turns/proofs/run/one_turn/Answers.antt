@@ -1,7 +1,7 @@
 use Rattle.std.proofs.Common.{◌≡◌, true, false, not, Err, rules, refl, ◌∙◌, subst}
 use Rattle.std.proofs.lemmas.Result.{err_from_is_err_and}
 use Rattle.std.specs.Io.KnownBytes.{Appends}
-use Rattle.trace_lines.specs.Writing.{WritesFront}
+use Rattle.whole_writes.specs.Writing.{WritesFront}
 use Rattle.olt_turns.specs.Seat.{state_of, Hears, HearsInPart}
 use Rattle.olt_turns.proofs.Turning.{opening_part, turn_over, turn_part, turn_unwritten, turn_ran}
 use Rattle.olt_turns.proofs.Hearing.{begun_so, grown, stops_ends}

@@ -1,7 +1,7 @@
 use Rattle.std.proofs.Common.{refl, ◌∙◌, subst}
 use Rattle.std.proofs.lemmas.Result.{err_from_is_err_and}
 use Rattle.turn_spec.specs.OltTurns.{olt_first}
-use Rattle.trace_lines.specs.Writing.{WritesFront}
+use Rattle.whole_writes.specs.Writing.{WritesFront}
 use Rattle.olt_turns.specs.Seat.{state_of}
 use Rattle.olt_turns.proofs.Turning.{writes_nothing, ran_begins, ran_then, ran_in_part, run_ended, run_unended, run_part, run_begun, fewer_left}
 use Rattle.olt_turns.proofs.run.run_olt.Goals as goal

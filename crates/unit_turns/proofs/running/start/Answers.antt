@@ -4,7 +4,7 @@ use Rattle.image_store.specs.Stands.{state_disk}
 use Rattle.image_store.specs.Counts.{store_faults}
 use Rattle.unit_turns.specs.declared.ending.UnitStatus.TheVariants.{WriteFault, NoMemory}
 use Rattle.unit_turns.proofs.Beginning.{start_done, start_broke, start_starved, start_refused}
-use Rattle.unit_turns.proofs.Causing.{refused_caused, write_caused, starved_caused}
+use Rattle.unit_turns.proofs.Causing.{refused_caused, refused_bare, write_caused, starved_caused}
 use Rattle.unit_turns.proofs.Counting.{refused_counts, ended_counts}
 use Rattle.unit_turns.proofs.running.start.Goals as goal
 
@@ -87,3 +87,19 @@ returns-in-Err-NoMemory-clause-count g c =
     (g.D.Disk.faults c.end_of-in-Err-NoMemory.result.disk)
     c.end_of-in-Err-NoMemory.ensures.status (inl c.in-Ok.ensures.count)
     c.end_of-in-Err-NoMemory.ensures.count
+
+pub returns-in-Err-clause-bare : goal.returns-in-Err-clause-bare
+returns-in-Err-clause-bare g c = λ bytes reads other.
+    (refused_bare c.in-Err.refusal c.refused.result.status c.refused.ensures.status, refl)
+
+pub returns-in-Ok-write_start-clause-bare : goal.returns-in-Ok-write_start-clause-bare
+returns-in-Ok-write_start-clause-bare g c = λ bytes reads other.
+    absurd (other (c.in-Ok.ensures.found bytes reads))
+
+pub returns-in-Err-Write-clause-bare : goal.returns-in-Err-Write-clause-bare
+returns-in-Err-Write-clause-bare g c = λ bytes reads other.
+    absurd (other (c.in-Ok.ensures.found bytes reads))
+
+pub returns-in-Err-NoMemory-clause-bare : goal.returns-in-Err-NoMemory-clause-bare
+returns-in-Err-NoMemory-clause-bare g c = λ bytes reads other.
+    absurd (other (c.in-Ok.ensures.found bytes reads))

@@ -1,10 +1,11 @@
-use Rattle.std.proofs.Common.{inl, refl, sym, ◌∙◌, subst, Ok}
+use Rattle.std.proofs.Common.{ℕ, inl, refl, sym, ◌∙◌, subst, Ok}
 use Rattle.image_store.specs.Stands.{state_disk}
 use Rattle.unit_turns.specs.Ending.{UnitEnds}
 use Rattle.unit_turns.specs.declared.ending.UnitStatus.{UnitStatus}
 use Rattle.unit_turns.proofs.Whole.{first_runs, first_shown, first_unattached, first_ran, first_failed}
 use Rattle.unit_turns.proofs.Causing.{started_cause, link_broke, caused_from}
 use Rattle.image_store.specs.Counts.{store_faults}
+use Rattle.image_store.specs.Starts.{IsUnit}
 use Rattle.unit_turns.specs.declared.ending.UnitStatus.TheVariants.{LinkFault}
 use Rattle.unit_turns.proofs.Counting.{cause_after, counts_after, ended_counts}
 use Rattle.unit_turns.proofs.unit.run_unit.Goals as goal
@@ -76,6 +77,31 @@ returns-in-Ok-attach-clause-ends g c = λ room s0 bytes reads there.
     (g.L.Link.sent c.args.link.now) (g.L.Link.sent c.attach-2.new.self)
     (g.K.Sink.written c.args.sink.now) (g.K.Sink.written c.start.new.sink) c.in-Ok-start.unit s
     c.attach-2.ensures.left c.attach-2.ensures.sent))
+
+-- ---- a disk that told bytes of no unit
+
+pub returns-in-Err-clause-bare : goal.returns-in-Err-clause-bare
+returns-in-Err-clause-bare g c = λ bytes reads other. (tt, refl, refl)
+
+pub returns-in-Err-start-clause-bare : goal.returns-in-Err-start-clause-bare
+returns-in-Err-start-clause-bare g c = λ bytes reads other.
+    let bare = c.in-Err-start.ensures.bare bytes (c.attach.ensures.seen ∙ reads)
+    (λ is. other (subst (λ (n : ℕ). IsUnit n bytes) (c.in-Ok.ensures.length bytes reads) is)) in
+    (bare.0, refl, bare.1)
+
+pub returns-in-Err-attach-clause-bare : goal.returns-in-Err-attach-clause-bare
+returns-in-Err-attach-clause-bare g c = λ bytes reads other.
+    let bare = c.in-Ok-start.ensures.bare bytes (c.attach.ensures.seen ∙ reads)
+    (λ is. other (subst (λ (n : ℕ). IsUnit n bytes) (c.in-Ok.ensures.length bytes reads) is)) in
+    absurd bare.0
+
+pub returns-in-Ok-attach-clause-bare : goal.returns-in-Ok-attach-clause-bare
+returns-in-Ok-attach-clause-bare g c = λ bytes reads other.
+    let bare = c.in-Ok-start.ensures.bare bytes (c.attach.ensures.seen ∙ reads)
+    (λ is. other (subst (λ (n : ℕ). IsUnit n bytes) (c.in-Ok.ensures.length bytes reads) is)) in
+    absurd bare.0
+
+-- ---- the counts of faults
 
 pub returns-in-Err-start-clause-cause : goal.returns-in-Err-start-clause-cause
 returns-in-Err-start-clause-cause g c =
