@@ -1,7 +1,7 @@
-//! What fails outside while a stream is shown or counted, and streams that are too long.
+//! What fails outside while a stream is shown or counted.
 
-use crate::frames::{GET, LONGEST_CHECK, LONGEST_HEADER, TURNED};
-use crate::harness::{bytes_of, says, status_of};
+use crate::frames::{GET, TURNED};
+use crate::harness::{bytes_of, status_of};
 use omci_core::{MemSink, MemSource};
 use omci_top::Status;
 use std::alloc::Global;
@@ -118,70 +118,6 @@ fn ends_so(alloc: Global, row: &Row) -> Result<bool, Fail> {
 fn a_fault_outside_ends_a_stream(rt: HostRuntime) -> Result<(), Fail> {
     for (place, row) in ROWS.iter().enumerate() {
         assert!(rt; ends_so(rt.alloc(), row)?, "row {place}");
-    }
-    Ok(())
-}
-
-/// An extended get with the most contents, all of them zeros: 1,980 bytes.
-fn longest_frame(alloc: Global) -> Result<Vec<u8>, Fail> {
-    let mut bytes = bytes_of(alloc, &[LONGEST_HEADER])?;
-    for _ in 0..1966 {
-        bytes.push(0)?;
-    }
-    bytes.extend_from_slice(&bytes_of(alloc, &[LONGEST_CHECK])?)?;
-    Ok(bytes)
-}
-
-/// So many frames of 1,980 bytes have 16,776,540 bytes, 676 less than the most.
-const FRAMES: usize = 8473;
-
-/// A stream of these frames, then of the longest ones, and then the first bytes of one more.
-fn long_stream(alloc: Global, first: &[&str], more: usize) -> Result<Vec<u8>, Fail> {
-    let mut bytes = bytes_of(alloc, first)?;
-    let longest = longest_frame(alloc)?;
-    for _ in 0..FRAMES {
-        bytes.extend_from_slice(&longest)?;
-    }
-    for byte in longest.iter().take(more) {
-        bytes.push(*byte)?;
-    }
-    Ok(bytes)
-}
-
-/// The first frames, how many bytes follow the longest ones, and how the stream ends.
-const LONG: [(&[&str], usize, Status, &str); 4] = [
-    (&[], 0, Status::Done, "frames 8473 unknown 0\n"),
-    (
-        &[],
-        676,
-        Status::Input {
-            place: 16_776_540,
-            reason: 12,
-        },
-        "input 16776540 12\n",
-    ),
-    (&[], 677, Status::TooLong, ""),
-    // a fault within the most bytes is told first
-    (
-        &[TURNED],
-        677,
-        Status::Input {
-            place: 0,
-            reason: 14,
-        },
-        "input 0 14\n",
-    ),
-];
-
-#[test]
-fn a_stream_has_at_most_16777216_bytes(rt: HostRuntime) -> Result<(), Fail> {
-    let alloc = rt.alloc();
-    for (first, more, status, output) in LONG {
-        let input = long_stream(alloc, first, more)?;
-        assert!(rt;
-            says(alloc, &["check"], &input, status, output)?,
-            "{more} bytes more"
-        );
     }
     Ok(())
 }

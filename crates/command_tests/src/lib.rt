@@ -1,5 +1,5 @@
-//! What the commands say of streams of frames and of scripts with a fault, by their words, their
-//! input and what fails outside. The crate has tests alone.
+//! The statuses of commands by what fails outside and by their input, and the commands that words
+//! are. The crate has tests alone.
 #![tactic(auto)]
 
 #[cfg(test)]

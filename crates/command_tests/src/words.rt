@@ -1,41 +1,9 @@
-//! Words that are a command line, with the number that they carry, and words that are none.
+//! Words that are a command line, with the number that they carry.
 
-use crate::harness::says;
 use omci_core::{NoMemory, Words};
-use omci_top::{Command, Status, command_of};
+use omci_top::{Command, command_of};
 use std::alloc::Global;
 use std::test::Fail;
-
-/// Words that are no command line.
-const OTHER_WORDS: [&[&str]; 19] = [
-    &[],
-    &["fly"],
-    &["replay", "x"],
-    &["drill"],
-    &["drill", ""],
-    &["drill", "x"],
-    &["drill", "-1"],
-    &["drill", "4294967296"],
-    &["drill", "00000000001"],
-    &["drill", "1", "1"],
-    &["olt"],
-    &["olt", "a"],
-    &["olt", "", "1"],
-    &["olt", "a", "0"],
-    &["olt", "a", "1000000001"],
-    &["olt", "a", "x"],
-    &["olt", "a", "1", "1"],
-    &["flash"],
-    &["flash", ""],
-];
-
-#[test]
-fn other_words_are_no_command(rt: HostRuntime) -> Result<(), Fail> {
-    for words in OTHER_WORDS {
-        assert!(rt; says(rt.alloc(), words, b"", Status::Usage, "")?);
-    }
-    Ok(())
-}
 
 /// Words, and the command that they are.
 const COMMANDS: [(&[&str], Command); 9] = [

@@ -53,8 +53,3 @@ pub fn bytes_of(alloc: Global, bytes: &[u8]) -> Result<Vec<u8>, AllocError> {
 pub fn one(alloc: Global, call: u64) -> Result<Vec<u64>, AllocError> {
     vec![in alloc; call; 1]
 }
-
-/// So many copies of a byte.
-pub fn repeated(alloc: Global, byte: u8, count: usize) -> Result<Vec<u8>, AllocError> {
-    vec![in alloc; byte; count]
-}

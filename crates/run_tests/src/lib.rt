@@ -1,15 +1,10 @@
-//! Whole runs of the top call over sources and sinks in memory. The crate has tests alone.
+//! Calls of the top call that fail at the source or the sink, and the numbers of the statuses. The
+//! crate has tests alone.
 #![tactic(auto)]
 
-#[cfg(test)]
-mod alarms;
 #[cfg(test)]
 mod failing;
 #[cfg(test)]
 mod harness;
 #[cfg(test)]
-mod images;
-#[cfg(test)]
-mod resync;
-#[cfg(test)]
-mod runs;
+mod statuses;
