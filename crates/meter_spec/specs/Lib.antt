@@ -1,0 +1,4 @@
+pub mod Events
+pub mod Marks
+pub mod Replies
+pub mod Meter

@@ -1,0 +1,9 @@
+mod Puts
+mod Sums
+mod Rows
+mod Holdings
+mod Fours
+mod Passing
+mod Counting
+mod Asking
+mod Standing
