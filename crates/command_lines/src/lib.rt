@@ -5,9 +5,11 @@ ghost use Rattle.std.specs.Prelude.{◌≡◌};
 ghost use Rattle.command_lines.specs.Commands.{command_of, alone, drill_of, with_one, olt_of, with_two, unit_of, with_three};
 
 mod numbers;
+mod program;
 
 use crate::numbers::number_of;
 use omci_core::Words;
+pub use program::words_after;
 
 /// The largest number that a drill may be made from.
 pub const LARGEST_SEED: u32 = 4_294_967_295;

@@ -1,7 +1,7 @@
 -- The frames and answers of the code as the definitions have them.
 use Rattle.std.specs.Prelude.{Bool, true, false}
-use Rattle.extended_frames.specs.declared.long_frame.AnyFrame.{AnyFrame}
-use Rattle.extended_frames.specs.declared.long_frame.AnyFrame.TheVariants as frames
+use Rattle.extended_frames.specs.declared.any_frame.AnyFrame.{AnyFrame}
+use Rattle.extended_frames.specs.declared.any_frame.AnyFrame.TheVariants as frames
 use Rattle.extended_frames.specs.declared.stream.TakenAny.{TakenAny}
 use Rattle.extended_frames.specs.declared.stream.TakenAny.TheVariants as taken
 use Rattle.extended_frames.specs.declared.front.Shown.{Shown}

@@ -4,8 +4,9 @@ ghost use Rattle.std.specs.Prelude.{◌≡◌, ◌+◌, ◌≤◌, ◌⊎◌, tr
 ghost use Rattle.extended_spec.specs.Frames.{length_at, long_of, long_given, long_computed, long_fault_of, as_any, is_extended, fault_in, frame_in, bytes_in, any_fault_of, any_of, any_bytes, any_decoded};
 ghost use Rattle.extended_frames.specs.Views.{any_in};
 
-use crate::long_frame::{AnyFrame, LongFrame};
+use crate::any_frame::AnyFrame;
 use aal5_crc::crc_of;
+use extended_contents::LongFrame;
 use extended_spec::{AnyFault, CHECK_BYTES, EXTENDED_DEVICE, HEADER_BYTES, MAX_LONG_CONTENTS};
 use omci_core::NoMemory;
 use omci_frames::{FRAME_BYTES, FrameFault, first_fault, four_at, frame_at, number_at};

@@ -4,8 +4,8 @@ ghost use Rattle.std.specs.Prelude.{◌≡◌, ◌+◌, ◌≤◌, ◌++◌, ◌
 ghost use Rattle.std.specs.Int.{to_be_bytes, w16};
 ghost use Rattle.extended_spec.specs.Frames.{long_checked, long_spelling};
 
-use crate::long_frame::LongFrame;
 use aal5_crc::crc_of;
+use extended_contents::LongFrame;
 use extended_spec::{EXTENDED_DEVICE, HEADER_BYTES, MAX_LONG_CONTENTS};
 use omci_core::{MAX_PACKET_BYTES, Packet};
 use omci_types::EntityId;

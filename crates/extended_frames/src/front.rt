@@ -14,9 +14,8 @@ ghost use Rattle.omci_contents.specs.Front.{IsFront};
 ghost use Rattle.extended_frames.specs.Views.{shown_by, is_shown_faulty};
 
 use crate::decoding::{any_bytes, any_fault, contents_at, entity_at, is_extended};
-use crate::needs::need;
-use crate::reading::kind_at;
 use crate::texts::push_fields;
+use extended_contents::{kind_at, need};
 use extended_spec::{AnyFault, CHECK_BYTES, HEADER_BYTES, LongFault, MAX_LONG_CONTENTS};
 use omci_contents::push_text;
 use omci_core::NoMemory;

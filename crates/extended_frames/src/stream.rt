@@ -6,10 +6,10 @@ ghost use Rattle.extended_spec.specs.Frames.{is_extended, any_fault_of};
 ghost use Rattle.extended_spec.specs.Streams.{any_front, any_taken_from, any_held_bytes_fault, any_finish_from};
 ghost use Rattle.extended_frames.specs.Views.{view_of};
 
+use crate::any_frame::AnyFrame;
 use crate::buffer::make_room;
 use crate::decoding::{any_at, any_bytes};
 use crate::front::{Shown, front_shown, is_faulty};
-use crate::long_frame::AnyFrame;
 use extended_spec::{AnyFault, AnyStreamFault};
 use omci_core::{MAX_PACKET_BYTES, NoMemory, put_at};
 use std::alloc::Global;

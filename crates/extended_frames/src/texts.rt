@@ -6,7 +6,8 @@ ghost use Rattle.extended_spec.specs.Text.{long_text, any_text};
 ghost use Rattle.omci_contents.specs.Front.{IsFront};
 ghost use Rattle.extended_frames.specs.Views.{any_in};
 
-use crate::long_frame::{AnyFrame, LongFrame};
+use crate::any_frame::AnyFrame;
+use extended_contents::LongFrame;
 use omci_contents::{push_bytes, push_hex, push_kind_text, push_number, push_tci, push_text};
 use omci_core::NoMemory;
 use omci_types::EntityId;

@@ -1,7 +1,1 @@
 pub mod Untaken
-pub mod Gathered
-pub mod Rows
-pub mod Downloads
-pub mod Sections
-pub mod Granted
-pub mod Sent

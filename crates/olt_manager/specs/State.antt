@@ -1,8 +1,7 @@
 -- What callers see of a manager: the manager, and whether memory ran out in an earlier call.
-use Rattle.std.specs.Prelude.{◌≡◌, Bool, false, ℕ, List, length}
-use Rattle.std.specs.List.{All}
+use Rattle.std.specs.Prelude.{Bool, false, ℕ, List}
 use Rattle.manager_spec.specs.Manager.{Manager}
-use Rattle.frame_spec.specs.declared.TheConstants.{FRAME_BYTES}
+use Rattle.manager_jobs.specs.Packets as sent
 
 pub record State : Type 0 where
   pub spent : Bool
@@ -14,4 +13,4 @@ sound m = record { spent = false; manager = m }
 
 -- each packet is a baseline frame's 48 bytes
 abbrev pub AreFrames : List (List ℕ) → Type 0
-AreFrames packets = All (λ packet. length packet ≡ FRAME_BYTES) packets
+AreFrames packets = sent.AreFrames packets

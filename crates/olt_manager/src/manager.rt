@@ -14,9 +14,10 @@ ghost use Rattle.manager_spec.specs.Jobs.{job_of};
 ghost use Rattle.manager_spec.specs.Steps.{after_packet, after_tick};
 ghost use Rattle.olt_manager.specs.State.{sound, AreFrames};
 
-use crate::olt::Olt;
+use crate::{replies, submitting, ticks};
 use alarm_log::AlarmTable;
 use download_window::Image;
+use manager_jobs::Olt;
 use manager_spec::{Job, Phase, Refusal, Report};
 use mib_upload::MibCopy;
 use omci_contents::Request;
@@ -90,7 +91,7 @@ impl Manager {
         if self.spent {
             return Err(Refusal::NoMemory);
         }
-        let answer = answer_of(self.olt.probe(priority, out));
+        let answer = answer_of(submitting::probe(&mut self.olt, priority, out));
         self.spent = matches!(answer, Err(Refusal::NoMemory));
         answer
     }
@@ -129,7 +130,7 @@ impl Manager {
         if self.spent {
             return Err(Refusal::NoMemory);
         }
-        let answer = answer_of(self.olt.submit(priority, entity, request, out));
+        let answer = answer_of(submitting::submit(&mut self.olt, priority, entity, request, out));
         self.spent = matches!(answer, Err(Refusal::NoMemory));
         answer
     }
@@ -156,7 +157,7 @@ impl Manager {
         if self.spent {
             return Err(Refusal::NoMemory);
         }
-        let answer = answer_of(self.olt.resync(out));
+        let answer = answer_of(submitting::resync(&mut self.olt, out));
         self.spent = matches!(answer, Err(Refusal::NoMemory));
         answer
     }
@@ -183,7 +184,7 @@ impl Manager {
         if self.spent {
             return Err(Refusal::NoMemory);
         }
-        let answer = answer_of(self.olt.check(out));
+        let answer = answer_of(submitting::check(&mut self.olt, out));
         self.spent = matches!(answer, Err(Refusal::NoMemory));
         answer
     }
@@ -210,7 +211,7 @@ impl Manager {
         if self.spent {
             return Err(Refusal::NoMemory);
         }
-        let answer = answer_of(self.olt.audit(out));
+        let answer = answer_of(submitting::audit(&mut self.olt, out));
         self.spent = matches!(answer, Err(Refusal::NoMemory));
         answer
     }
@@ -250,7 +251,7 @@ impl Manager {
         if self.spent {
             return Err(Refusal::NoMemory);
         }
-        let answer = answer_of(self.olt.image(slot, window, crc, image, out));
+        let answer = answer_of(submitting::image(&mut self.olt, slot, window, crc, image, out));
         self.spent = matches!(answer, Err(Refusal::NoMemory));
         answer
     }
@@ -272,7 +273,7 @@ impl Manager {
         if self.spent {
             return Err(NoMemory);
         }
-        let done = self.olt.packet(bytes, out);
+        let done = replies::packet(&mut self.olt, bytes, out);
         self.spent = done.is_err();
         done
     }
@@ -292,7 +293,7 @@ impl Manager {
         if self.spent {
             return Err(NoMemory);
         }
-        let done = self.olt.tick(out);
+        let done = ticks::tick(&mut self.olt, out);
         self.spent = done.is_err();
         done
     }

@@ -15,12 +15,10 @@ ghost use Rattle.manager_spec.specs.Submitting.{after_audit, image_refusal, afte
 ghost use Rattle.manager_spec.specs.Submitting.{check_given};
 ghost use Rattle.olt_manager.specs.State.{AreFrames};
 
-use crate::olt::Olt;
-use crate::stage::{Order, Stage, job_of};
-use crate::upgrade::start_command;
 use aal5_crc::crc_of;
 use class_spec::ONU_DATA;
 use download_window::Image;
+use manager_jobs::{Olt, Order, Stage, start_command};
 use manager_spec::{Phase, Refusal};
 use olt_lanes::{Command, is_change};
 use omci_contents::Request;
@@ -78,368 +76,364 @@ fn leaves_copy(request: &Request) -> bool
     }
 }
 
-impl Olt {
-    // ---- refusals
+// ---- refusals
 
-    /// The lane isn't proved.
-    fn unproven(&self, priority: Priority) -> Option<Refusal>
-        ensures value { result ≡ unproven priority self.now }
-    {
-        if self.lane(priority).unproven() {
-            Some(Refusal::Unproven { lane: priority })
-        } else {
-            None
-        }
+/// The lane isn't proved.
+fn unproven(olt: &Olt, priority: Priority) -> Option<Refusal>
+    ensures value { result ≡ unproven priority olt.now }
+{
+    if olt.lane(priority).unproven() {
+        Some(Refusal::Unproven { lane: priority })
+    } else {
+        None
     }
+}
 
-    /// A command is outstanding in the lane.
-    fn occupied(&self, priority: Priority) -> Option<Refusal>
-        ensures value { result ≡ occupied priority self.now }
-    {
-        let tci = self.lane(priority).outstanding()?;
-        Some(Refusal::Occupied { tci })
+/// A command is outstanding in the lane.
+fn occupied(olt: &Olt, priority: Priority) -> Option<Refusal>
+    ensures value { result ≡ occupied priority olt.now }
+{
+    let tci = olt.lane(priority).outstanding()?;
+    Some(Refusal::Occupied { tci })
+}
+
+/// The command needs a copy that is in step, and there is none.
+fn out_of_step(olt: &Olt, needs: bool) -> Option<Refusal>
+    ensures value { result ≡ out_of_step needs olt.now }
+{
+    if !needs {
+        return None;
     }
-
-    /// The command needs a copy that is in step, and there is none.
-    fn out_of_step(&self, needs: bool) -> Option<Refusal>
-        ensures value { result ≡ out_of_step needs self.now }
-    {
-        if !needs {
-            return None;
-        }
-        match self.phase {
-            Phase::InStep => None,
-            Phase::New | Phase::Out => Some(Refusal::OutOfStep { phase: self.phase }),
-        }
+    match olt.phase() {
+        Phase::InStep => None,
+        Phase::New | Phase::Out => Some(Refusal::OutOfStep { phase: olt.phase() }),
     }
+}
 
-    /// A job runs.
-    fn job_running(&self) -> Option<Refusal>
-        ensures value { result ≡ job_running self.now }
-    {
-        match &self.job {
-            None => None,
-            Some(stage) => Some(Refusal::JobRunning { job: job_of(stage) }),
-        }
+/// A job runs.
+fn job_running(olt: &Olt) -> Option<Refusal>
+    ensures value { result ≡ job_running olt.now }
+{
+    let job = olt.job()?;
+    Some(Refusal::JobRunning { job })
+}
+
+/// A job runs, beside which the request isn't submitted.
+fn job_in_the_way(olt: &Olt, priority: Priority, request: &Request) -> Option<Refusal>
+    ensures value { result ≡ job_in_the_way priority request.now olt.now }
+{
+    if goes_beside(priority, request) {
+        None
+    } else {
+        job_running(olt)
     }
+}
 
-    /// A job runs, beside which the request isn't submitted.
-    fn job_in_the_way(&self, priority: Priority, request: &Request) -> Option<Refusal>
-        ensures value { result ≡ job_in_the_way priority request.now self.now }
-    {
-        if goes_beside(priority, request) {
-            None
-        } else {
-            self.job_running()
-        }
+/// A change is outstanding in the other lane.
+fn other_change(olt: &Olt, priority: Priority) -> Option<Refusal>
+    ensures value { result ≡ other_change priority olt.now }
+{
+    let other = match priority {
+        Priority::Low => olt.lane(Priority::High),
+        Priority::High => olt.lane(Priority::Low),
+    };
+    if !other.is_changing() {
+        return None;
     }
+    let tci = other.outstanding()?;
+    Some(Refusal::ChangeOutstanding { tci })
+}
 
-    /// A change is outstanding in the other lane.
-    fn other_change(&self, priority: Priority) -> Option<Refusal>
-        ensures value { result ≡ other_change priority self.now }
-    {
-        let other = match priority {
-            Priority::Low => &self.high,
-            Priority::High => &self.low,
+/// The request is a change, and one is outstanding in the other lane.
+fn second_change(olt: &Olt, request: &Request, priority: Priority) -> Option<Refusal>
+    ensures value { result ≡ second_change request.now priority olt.now }
+{
+    if is_change(request) {
+        other_change(olt, priority)
+    } else {
+        None
+    }
+}
+
+/// The first reason why a lane isn't probed.
+fn probe_refusal(olt: &Olt, priority: Priority) -> Option<Refusal>
+    ensures value { result ≡ probe_refusal priority olt.now }
+{
+    let occupied = occupied(olt, priority);
+    if occupied.is_some() {
+        return occupied;
+    }
+    job_running(olt)
+}
+
+/// The first reason why a request isn't submitted.
+fn submit_refusal(olt: &Olt, priority: Priority, request: &Request) -> Option<Refusal>
+    ensures value { result ≡ submit_refusal priority request.now olt.now }
+{
+    let unproven = unproven(olt, priority);
+    if unproven.is_some() {
+        return unproven;
+    }
+    let occupied = occupied(olt, priority);
+    if occupied.is_some() {
+        return occupied;
+    }
+    let out_of_step = out_of_step(olt, needs_copy(request));
+    if out_of_step.is_some() {
+        return out_of_step;
+    }
+    let job = job_in_the_way(olt, priority, request);
+    if job.is_some() {
+        return job;
+    }
+    second_change(olt, request, priority)
+}
+
+/// The first reason why the counters aren't compared.
+fn check_refusal(olt: &Olt) -> Option<Refusal>
+    ensures value { result ≡ check_refusal olt.now }
+{
+    let unproven = unproven(olt, Priority::Low);
+    if unproven.is_some() {
+        return unproven;
+    }
+    let occupied = occupied(olt, Priority::Low);
+    if occupied.is_some() {
+        return occupied;
+    }
+    let out_of_step = out_of_step(olt, true);
+    if out_of_step.is_some() {
+        return out_of_step;
+    }
+    let job = job_running(olt);
+    if job.is_some() {
+        return job;
+    }
+    other_change(olt, Priority::Low)
+}
+
+/// The first reason why no resynchronisation begins.
+fn resync_refusal(olt: &Olt) -> Option<Refusal>
+    ensures value { result ≡ resync_refusal olt.now }
+{
+    let high = occupied(olt, Priority::High);
+    if high.is_some() {
+        return high;
+    }
+    let low = occupied(olt, Priority::Low);
+    if low.is_some() {
+        return low;
+    }
+    job_running(olt)
+}
+
+/// The first reason why no audit begins.
+fn audit_refusal(olt: &Olt) -> Option<Refusal>
+    ensures value { result ≡ audit_refusal olt.now }
+{
+    let unproven = unproven(olt, Priority::Low);
+    if unproven.is_some() {
+        return unproven;
+    }
+    let occupied = occupied(olt, Priority::Low);
+    if occupied.is_some() {
+        return occupied;
+    }
+    job_running(olt)
+}
+
+/// The first reason why no download begins.
+fn image_refusal(olt: &Olt) -> Option<Refusal>
+    ensures value { result ≡ image_refusal olt.now }
+{
+    let unproven = unproven(olt, Priority::Low);
+    if unproven.is_some() {
+        return unproven;
+    }
+    let occupied = occupied(olt, Priority::Low);
+    if occupied.is_some() {
+        return occupied;
+    }
+    let job = job_running(olt);
+    if job.is_some() {
+        return job;
+    }
+    other_change(olt, Priority::Low)
+}
+
+// ---- what is submitted
+
+/// Probes a lane: a get of MIB data sync, whose reply proves the lane whatever it says.
+#[tactic(auto, unfolding(manager_spec::specs::Submitting::after_probe))]
+pub fn probe(
+    olt: &mut Olt,
+    priority: Priority,
+    out: &mut Packets,
+) -> Result<Option<Refusal>, NoMemory>
+    ensures refusal { IfOk result
+        (λ refusal. refusal ≡ (after_probe priority olt.old).refusal) }
+    ensures manager { OnOk result (olt.new ≡ (after_probe priority olt.old).outcome.manager) }
+    ensures kept { IfOk result
+        (λ refusal. IsSome refusal → (olt.new ≡ olt.old) × (out.new ≡ out.old)) }
+    ensures packets { OnOk result
+        (out.new ≡ out.old ++ packets_of (after_probe priority olt.old).outcome.sendings) }
+    ensures whole { OnOk result
+        (AreFrames (packets_of (after_probe priority olt.old).outcome.sendings)) }
+{
+    let refusal = probe_refusal(olt, priority);
+    if refusal.is_none() {
+        olt.send(priority, Command::probe(), out)?;
+    }
+    Ok(refusal)
+}
+
+/// Submits a request for an entity.
+#[tactic(auto, unfolding(manager_spec::specs::Submitting::after_submit))]
+pub fn submit(
+    olt: &mut Olt,
+    priority: Priority,
+    entity: EntityId,
+    request: Request,
+    out: &mut Packets,
+) -> Result<Option<Refusal>, NoMemory>
+    requires window { RequestWindow request }
+    ensures refusal { IfOk result
+        (λ refusal. refusal ≡ (after_submit priority entity request olt.old).refusal) }
+    ensures manager { OnOk result
+        (olt.new ≡ (after_submit priority entity request olt.old).outcome.manager) }
+    ensures kept { IfOk result
+        (λ refusal. IsSome refusal → (olt.new ≡ olt.old) × (out.new ≡ out.old)) }
+    ensures packets { OnOk result
+        (out.new ≡ out.old
+        ++ packets_of (after_submit priority entity request olt.old).outcome.sendings) }
+    ensures whole { OnOk result
+        (AreFrames
+        (packets_of (after_submit priority entity request olt.old).outcome.sendings)) }
+{
+    let refusal = submit_refusal(olt, priority, &request);
+    if refusal.is_none() {
+        leave_if(olt, leaves_copy(&request))?;
+        olt.send(priority, Command::ask(entity, request), out)?;
+    }
+    Ok(refusal)
+}
+
+/// Leaves the step, where that is so. The lanes stay as they are.
+fn leave_if(olt: &mut Olt, leaves: bool) -> Result<(), NoMemory>
+    ensures manager { OnOk result (olt.new ≡ leave_if leaves olt.old) }
+    ensures low { OnOk result (olt.new.low ≡ olt.old.low) }
+    ensures high { OnOk result (olt.new.high ≡ olt.old.high) }
+{
+    if leaves {
+        olt.leave_step()?;
+    }
+    Ok(())
+}
+
+/// Asks for the unit's counter, to compare it with the copy's.
+#[tactic(auto, unfolding(manager_spec::specs::Submitting::after_check))]
+pub fn check(olt: &mut Olt, out: &mut Packets) -> Result<Option<Refusal>, NoMemory>
+    ensures refusal { IfOk result (λ refusal. refusal ≡ (after_check olt.old).refusal) }
+    ensures manager { OnOk result (olt.new ≡ (after_check olt.old).outcome.manager) }
+    ensures kept { IfOk result
+        (λ refusal. IsSome refusal → (olt.new ≡ olt.old) × (out.new ≡ out.old)) }
+    ensures packets { OnOk result
+        (out.new ≡ out.old ++ packets_of (after_check olt.old).outcome.sendings) }
+    ensures whole { OnOk result
+        (AreFrames (packets_of (after_check olt.old).outcome.sendings)) }
+{
+    let refusal = check_refusal(olt);
+    if refusal.is_none() {
+        olt.send(Priority::Low, Command::check(), out)?;
+    }
+    Ok(refusal)
+}
+
+/// Begins a resynchronisation: both lanes are probed, the high one first.
+#[tactic(auto, unfolding(manager_spec::specs::Submitting::after_resync))]
+pub fn resync(olt: &mut Olt, out: &mut Packets) -> Result<Option<Refusal>, NoMemory>
+    ensures refusal { IfOk result (λ refusal. refusal ≡ (after_resync olt.old).refusal) }
+    ensures manager { OnOk result (olt.new ≡ (after_resync olt.old).outcome.manager) }
+    ensures kept { IfOk result
+        (λ refusal. IsSome refusal → (olt.new ≡ olt.old) × (out.new ≡ out.old)) }
+    ensures packets { OnOk result
+        (out.new ≡ out.old ++ packets_of (after_resync olt.old).outcome.sendings) }
+    ensures whole { OnOk result
+        (AreFrames (packets_of (after_resync olt.old).outcome.sendings)) }
+{
+    let refusal = resync_refusal(olt);
+    if refusal.is_none() {
+        olt.set_job(Some(Stage::Probing {
+            high: true,
+            low: true,
+        }));
+        olt.send(Priority::High, Command::probe(), out)?;
+        olt.send(Priority::Low, Command::probe(), out)?;
+    }
+    Ok(refusal)
+}
+
+/// Begins an audit: all of the unit's alarms are asked for, whatever its mode of reporting.
+#[tactic(auto, unfolding(manager_spec::specs::Submitting::after_audit))]
+pub fn audit(olt: &mut Olt, out: &mut Packets) -> Result<Option<Refusal>, NoMemory>
+    ensures refusal { IfOk result (λ refusal. refusal ≡ (after_audit olt.old).refusal) }
+    ensures manager { OnOk result (olt.new ≡ (after_audit olt.old).outcome.manager) }
+    ensures kept { IfOk result
+        (λ refusal. IsSome refusal → (olt.new ≡ olt.old) × (out.new ≡ out.old)) }
+    ensures packets { OnOk result
+        (out.new ≡ out.old ++ packets_of (after_audit olt.old).outcome.sendings) }
+    ensures whole { OnOk result
+        (AreFrames (packets_of (after_audit olt.old).outcome.sendings)) }
+{
+    let refusal = audit_refusal(olt);
+    if refusal.is_none() {
+        olt.set_job(Some(Stage::AskingAlarms));
+        let command = Command::job(ONU_DATA, Request::Alarms { mode: 0 });
+        olt.send(Priority::Low, command, out)?;
+    }
+    Ok(refusal)
+}
+
+/// Begins a download of an image into a slot, in windows of so many sections, with the image's
+/// own check value where no other one is given.
+#[tactic(auto, unfolding(manager_spec::specs::Submitting::after_image))]
+pub fn image(
+    olt: &mut Olt,
+    slot: u8,
+    asked: u16,
+    check: Option<u32>,
+    image: Image,
+    out: &mut Packets,
+) -> Result<Option<Refusal>, NoMemory>
+    requires asked { IsWindow asked }
+    ensures refusal { IfOk result
+        (λ refusal. refusal ≡ (after_image slot asked check image olt.old).refusal) }
+    ensures manager { OnOk result
+        (olt.new ≡ (after_image slot asked check image olt.old).outcome.manager) }
+    ensures kept { IfOk result
+        (λ refusal. IsSome refusal → (olt.new ≡ olt.old) × (out.new ≡ out.old)) }
+    ensures packets { OnOk result
+        (out.new ≡ out.old
+        ++ packets_of (after_image slot asked check image olt.old).outcome.sendings) }
+    ensures whole { OnOk result (AreFrames
+        (packets_of (after_image slot asked check image olt.old).outcome.sendings)) }
+{
+    let refusal = image_refusal(olt);
+    if refusal.is_none() {
+        let order = Order {
+            slot,
+            size: image.bytes().len() as u32,
+            check: check_given(check, &image),
         };
-        if !other.is_changing() {
-            return None;
-        }
-        let tci = other.outstanding()?;
-        Some(Refusal::ChangeOutstanding { tci })
+        let command = start_command(&order, asked, &image);
+        olt.set_job(Some(Stage::StartingImage {
+            order,
+            asked,
+            image,
+        }));
+        olt.send(Priority::Low, command, out)?;
     }
-
-    /// The request is a change, and one is outstanding in the other lane.
-    fn second_change(&self, request: &Request, priority: Priority) -> Option<Refusal>
-        ensures value { result ≡ second_change request.now priority self.now }
-    {
-        if is_change(request) {
-            self.other_change(priority)
-        } else {
-            None
-        }
-    }
-
-    /// The first reason why a lane isn't probed.
-    fn probe_refusal(&self, priority: Priority) -> Option<Refusal>
-        ensures value { result ≡ probe_refusal priority self.now }
-    {
-        let occupied = self.occupied(priority);
-        if occupied.is_some() {
-            return occupied;
-        }
-        self.job_running()
-    }
-
-    /// The first reason why a request isn't submitted.
-    fn submit_refusal(&self, priority: Priority, request: &Request) -> Option<Refusal>
-        ensures value { result ≡ submit_refusal priority request.now self.now }
-    {
-        let unproven = self.unproven(priority);
-        if unproven.is_some() {
-            return unproven;
-        }
-        let occupied = self.occupied(priority);
-        if occupied.is_some() {
-            return occupied;
-        }
-        let out_of_step = self.out_of_step(needs_copy(request));
-        if out_of_step.is_some() {
-            return out_of_step;
-        }
-        let job = self.job_in_the_way(priority, request);
-        if job.is_some() {
-            return job;
-        }
-        self.second_change(request, priority)
-    }
-
-    /// The first reason why the counters aren't compared.
-    fn check_refusal(&self) -> Option<Refusal>
-        ensures value { result ≡ check_refusal self.now }
-    {
-        let unproven = self.unproven(Priority::Low);
-        if unproven.is_some() {
-            return unproven;
-        }
-        let occupied = self.occupied(Priority::Low);
-        if occupied.is_some() {
-            return occupied;
-        }
-        let out_of_step = self.out_of_step(true);
-        if out_of_step.is_some() {
-            return out_of_step;
-        }
-        let job = self.job_running();
-        if job.is_some() {
-            return job;
-        }
-        self.other_change(Priority::Low)
-    }
-
-    /// The first reason why no resynchronisation begins.
-    fn resync_refusal(&self) -> Option<Refusal>
-        ensures value { result ≡ resync_refusal self.now }
-    {
-        let high = self.occupied(Priority::High);
-        if high.is_some() {
-            return high;
-        }
-        let low = self.occupied(Priority::Low);
-        if low.is_some() {
-            return low;
-        }
-        self.job_running()
-    }
-
-    /// The first reason why no audit begins.
-    fn audit_refusal(&self) -> Option<Refusal>
-        ensures value { result ≡ audit_refusal self.now }
-    {
-        let unproven = self.unproven(Priority::Low);
-        if unproven.is_some() {
-            return unproven;
-        }
-        let occupied = self.occupied(Priority::Low);
-        if occupied.is_some() {
-            return occupied;
-        }
-        self.job_running()
-    }
-
-    /// The first reason why no download begins.
-    fn image_refusal(&self) -> Option<Refusal>
-        ensures value { result ≡ image_refusal self.now }
-    {
-        let unproven = self.unproven(Priority::Low);
-        if unproven.is_some() {
-            return unproven;
-        }
-        let occupied = self.occupied(Priority::Low);
-        if occupied.is_some() {
-            return occupied;
-        }
-        let job = self.job_running();
-        if job.is_some() {
-            return job;
-        }
-        self.other_change(Priority::Low)
-    }
-
-    // ---- what is submitted
-
-    /// Probes a lane: a get of MIB data sync, whose reply proves the lane whatever it says.
-    #[tactic(auto, unfolding(manager_spec::specs::Submitting::after_probe))]
-    pub fn probe(
-        &mut self,
-        priority: Priority,
-        out: &mut Packets,
-    ) -> Result<Option<Refusal>, NoMemory>
-        ensures refusal { IfOk result
-            (λ refusal. refusal ≡ (after_probe priority self.old).refusal) }
-        ensures manager { OnOk result (self.new ≡ (after_probe priority self.old).outcome.manager) }
-        ensures kept { IfOk result
-            (λ refusal. IsSome refusal → (self.new ≡ self.old) × (out.new ≡ out.old)) }
-        ensures packets { OnOk result
-            (out.new ≡ out.old ++ packets_of (after_probe priority self.old).outcome.sendings) }
-        ensures whole { OnOk result
-            (AreFrames (packets_of (after_probe priority self.old).outcome.sendings)) }
-    {
-        let refusal = self.probe_refusal(priority);
-        if refusal.is_none() {
-            self.send(priority, Command::probe(), out)?;
-        }
-        Ok(refusal)
-    }
-
-    /// Submits a request for an entity.
-    #[tactic(auto, unfolding(manager_spec::specs::Submitting::after_submit))]
-    pub fn submit(
-        &mut self,
-        priority: Priority,
-        entity: EntityId,
-        request: Request,
-        out: &mut Packets,
-    ) -> Result<Option<Refusal>, NoMemory>
-        requires window { RequestWindow request }
-        ensures refusal { IfOk result
-            (λ refusal. refusal ≡ (after_submit priority entity request self.old).refusal) }
-        ensures manager { OnOk result
-            (self.new ≡ (after_submit priority entity request self.old).outcome.manager) }
-        ensures kept { IfOk result
-            (λ refusal. IsSome refusal → (self.new ≡ self.old) × (out.new ≡ out.old)) }
-        ensures packets { OnOk result
-            (out.new ≡ out.old
-            ++ packets_of (after_submit priority entity request self.old).outcome.sendings) }
-        ensures whole { OnOk result
-            (AreFrames
-            (packets_of (after_submit priority entity request self.old).outcome.sendings)) }
-    {
-        let refusal = self.submit_refusal(priority, &request);
-        if refusal.is_none() {
-            self.leave_if(leaves_copy(&request))?;
-            self.send(priority, Command::ask(entity, request), out)?;
-        }
-        Ok(refusal)
-    }
-
-    /// Leaves the step, where that is so. The lanes stay as they are.
-    fn leave_if(&mut self, leaves: bool) -> Result<(), NoMemory>
-        ensures manager { OnOk result (self.new ≡ leave_if leaves self.old) }
-        ensures low { OnOk result (self.new.low ≡ self.old.low) }
-        ensures high { OnOk result (self.new.high ≡ self.old.high) }
-    {
-        if leaves {
-            self.leave_step()?;
-        }
-        Ok(())
-    }
-
-    /// Asks for the unit's counter, to compare it with the copy's.
-    #[tactic(auto, unfolding(manager_spec::specs::Submitting::after_check))]
-    pub fn check(&mut self, out: &mut Packets) -> Result<Option<Refusal>, NoMemory>
-        ensures refusal { IfOk result (λ refusal. refusal ≡ (after_check self.old).refusal) }
-        ensures manager { OnOk result (self.new ≡ (after_check self.old).outcome.manager) }
-        ensures kept { IfOk result
-            (λ refusal. IsSome refusal → (self.new ≡ self.old) × (out.new ≡ out.old)) }
-        ensures packets { OnOk result
-            (out.new ≡ out.old ++ packets_of (after_check self.old).outcome.sendings) }
-        ensures whole { OnOk result
-            (AreFrames (packets_of (after_check self.old).outcome.sendings)) }
-    {
-        let refusal = self.check_refusal();
-        if refusal.is_none() {
-            self.send(Priority::Low, Command::check(), out)?;
-        }
-        Ok(refusal)
-    }
-
-    /// Begins a resynchronisation: both lanes are probed, the high one first.
-    #[tactic(auto, unfolding(manager_spec::specs::Submitting::after_resync))]
-    pub fn resync(&mut self, out: &mut Packets) -> Result<Option<Refusal>, NoMemory>
-        ensures refusal { IfOk result (λ refusal. refusal ≡ (after_resync self.old).refusal) }
-        ensures manager { OnOk result (self.new ≡ (after_resync self.old).outcome.manager) }
-        ensures kept { IfOk result
-            (λ refusal. IsSome refusal → (self.new ≡ self.old) × (out.new ≡ out.old)) }
-        ensures packets { OnOk result
-            (out.new ≡ out.old ++ packets_of (after_resync self.old).outcome.sendings) }
-        ensures whole { OnOk result
-            (AreFrames (packets_of (after_resync self.old).outcome.sendings)) }
-    {
-        let refusal = self.resync_refusal();
-        if refusal.is_none() {
-            self.job = Some(Stage::Probing {
-                high: true,
-                low: true,
-            });
-            self.send(Priority::High, Command::probe(), out)?;
-            self.send(Priority::Low, Command::probe(), out)?;
-        }
-        Ok(refusal)
-    }
-
-    /// Begins an audit: all of the unit's alarms are asked for, whatever its mode of reporting.
-    #[tactic(auto, unfolding(manager_spec::specs::Submitting::after_audit))]
-    pub fn audit(&mut self, out: &mut Packets) -> Result<Option<Refusal>, NoMemory>
-        ensures refusal { IfOk result (λ refusal. refusal ≡ (after_audit self.old).refusal) }
-        ensures manager { OnOk result (self.new ≡ (after_audit self.old).outcome.manager) }
-        ensures kept { IfOk result
-            (λ refusal. IsSome refusal → (self.new ≡ self.old) × (out.new ≡ out.old)) }
-        ensures packets { OnOk result
-            (out.new ≡ out.old ++ packets_of (after_audit self.old).outcome.sendings) }
-        ensures whole { OnOk result
-            (AreFrames (packets_of (after_audit self.old).outcome.sendings)) }
-    {
-        let refusal = self.audit_refusal();
-        if refusal.is_none() {
-            self.job = Some(Stage::AskingAlarms);
-            let command = Command::job(ONU_DATA, Request::Alarms { mode: 0 });
-            self.send(Priority::Low, command, out)?;
-        }
-        Ok(refusal)
-    }
-
-    /// Begins a download of an image into a slot, in windows of so many sections, with the image's
-    /// own check value where no other one is given.
-    #[tactic(auto, unfolding(manager_spec::specs::Submitting::after_image))]
-    pub fn image(
-        &mut self,
-        slot: u8,
-        asked: u16,
-        check: Option<u32>,
-        image: Image,
-        out: &mut Packets,
-    ) -> Result<Option<Refusal>, NoMemory>
-        requires asked { IsWindow asked }
-        ensures refusal { IfOk result
-            (λ refusal. refusal ≡ (after_image slot asked check image self.old).refusal) }
-        ensures manager { OnOk result
-            (self.new ≡ (after_image slot asked check image self.old).outcome.manager) }
-        ensures kept { IfOk result
-            (λ refusal. IsSome refusal → (self.new ≡ self.old) × (out.new ≡ out.old)) }
-        ensures packets { OnOk result
-            (out.new ≡ out.old
-            ++ packets_of (after_image slot asked check image self.old).outcome.sendings) }
-        ensures whole { OnOk result (AreFrames
-            (packets_of (after_image slot asked check image self.old).outcome.sendings)) }
-    {
-        let refusal = self.image_refusal();
-        if refusal.is_none() {
-            let order = Order {
-                slot,
-                size: image.bytes().len() as u32,
-                check: check_given(check, &image),
-            };
-            let command = start_command(&order, asked, &image);
-            self.job = Some(Stage::StartingImage {
-                order,
-                asked,
-                image,
-            });
-            self.send(Priority::Low, command, out)?;
-        }
-        Ok(refusal)
-    }
+    Ok(refusal)
 }
 
 /// The check value that is given with an image: its own, where no other one is asked for.

@@ -1,6 +1,2 @@
-pub mod Told
-pub mod Playing
-pub mod Opening
 pub mod Turning
-pub mod Sending
-pub mod Hearing
+pub mod Ending

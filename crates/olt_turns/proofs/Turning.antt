@@ -8,10 +8,10 @@ use Rattle.turn_spec.specs.Arrivals.{Arrival, Came, Quiet, Closed}
 use Rattle.turn_spec.specs.OltTurns.{OltState, OltRun, Over, opening, turned, led, at_end, broken_off, goes_on, after_step, after_arrival, heard, arrived, packets_in, left_text, olt_run_from, olt_run, olt_first}
 use Rattle.omci_link.specs.Arrivals.{left_after}
 use Rattle.whole_writes.specs.Writing.{WritesFront}
-use Rattle.olt_turns.specs.Seat.{Seat, seat_ends, state_of, packets_after, SendsFront, TookAll, is_closed, Plays, Hears, HearsInPart, packets_heard, Opens, StaysOver, opening_packets}
+use Rattle.olt_seat.specs.Seat.{Seat, seat_ends, state_of, packets_after, SendsFront, TookAll, is_closed, Plays, Hears, HearsInPart, packets_heard, Opens, StaysOver, opening_packets}
 use Rattle.olt_turns.specs.Running.{HasRun, HasRunInPart, rest_of, Ran, RanInPart}
-use Rattle.olt_turns.proofs.Playing.{nothing_added, sends_nothing_of, packets_then, front_then, front_longer, front_all}
-use Rattle.olt_turns.proofs.Opening.{led_none, state_after}
+use Rattle.olt_seat.proofs.Playing.{nothing_added, sends_nothing_of, packets_then, front_then, front_longer, front_all}
+use Rattle.olt_seat.proofs.Opening.{led_none, state_after}
 
 -- ---- what a run is made of
 

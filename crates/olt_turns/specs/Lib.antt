@@ -1,2 +1,1 @@
-pub mod Seat
 pub mod Running

@@ -7,9 +7,9 @@ use Rattle.script_spec.specs.Script.{Orders}
 use Rattle.turn_spec.specs.Arrivals.{Arrival}
 use Rattle.turn_spec.specs.OltTurns.{OltState, OltRun, olt_run_from, olt_run, at_end, led}
 use Rattle.whole_writes.specs.Writing.{WritesFront}
-use Rattle.olt_turns.specs.Seat.{packets_after, SendsFront, TookAll}
-use Rattle.olt_turns.specs.declared.fault.OltFault.{OltFault}
-use Rattle.olt_turns.specs.declared.fault.OltFault.TheVariants as fault
+use Rattle.olt_seat.specs.Seat.{packets_after, SendsFront, TookAll}
+use Rattle.olt_seat.specs.declared.fault.OltFault.{OltFault}
+use Rattle.olt_seat.specs.declared.fault.OltFault.TheVariants as fault
 
 -- ---- the whole run
 

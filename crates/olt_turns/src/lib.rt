@@ -2,9 +2,7 @@
 //! nothing, and then hands it what the link gives.
 #![tactic(auto)]
 
-mod fault;
 mod run;
-mod seat;
 
-pub use fault::OltFault;
+pub use olt_seat::OltFault;
 pub use run::run_olt;

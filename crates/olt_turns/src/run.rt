@@ -3,14 +3,13 @@
 ghost use Rattle.std.specs.Prelude.{◌≡◌, ◌+◌, ◌≤◌, ◌++◌, [], true, OnOk, OnErr, IfOk, IfErr};
 ghost use Rattle.std.specs.Io.KnownBytes.{Appends};
 ghost use Rattle.omci_core.specs.Causes.{Rose};
-ghost use Rattle.turn_spec.specs.OltTurns.{left_text};
+ghost use Rattle.turn_spec.specs.OltTurns.{left_text, olt_first};
 ghost use Rattle.whole_writes.specs.Writing.{WritesFront};
-ghost use Rattle.olt_turns.specs.declared.fault.OltFault.TheVariants as fault;
-ghost use Rattle.olt_turns.specs.Seat.{state_of, StopsLink};
+ghost use Rattle.olt_seat.specs.declared.fault.OltFault.TheVariants as fault;
+ghost use Rattle.olt_seat.specs.Seat.{state_of, StopsLink};
 ghost use Rattle.olt_turns.specs.Running.{HasRun, HasRunInPart, EndsOlt, Ran, RanInPart};
 
-use crate::fault::OltFault;
-use crate::seat::{Room, Seat};
+use olt_seat::{OltFault, Room, Seat};
 use omci_contents::{push_bytes, push_number};
 use omci_core::{NoMemory, Sink};
 use omci_link::Link;
@@ -95,6 +94,41 @@ fn one_turn<K: Sink, L: Link>(
     Ok(!closed)
 }
 
+/// Runs a manager that has just started: it calls the address, takes its turns, and tells how many
+/// these were.
+fn take_turns<K: Sink, L: Link>(
+    alloc: Global,
+    address: &[u8],
+    turns: u32,
+    orders: &Orders,
+    seat: &mut Seat,
+    sink: &mut K,
+    link: &mut L,
+) -> Result<(), OltFault>
+    requires first { state_of orders.now.actions seat.old ≡ olt_first orders.now }
+    ensures run { OnOk result (HasRun turns orders.now
+        (L.left link.old) (L.left link.new) (L.sent link.old) (L.sent link.new)
+        (K.written sink.old) (K.written sink.new)) }
+    ensures part { OnErr result (HasRunInPart turns orders.now
+        (L.left link.old) (L.left link.new) (L.sent link.old) (L.sent link.new)
+        (K.written sink.old) (K.written sink.new)) }
+    ensures kept { OnOk result (L.faults link.new ≡ L.faults link.old) }
+    ensures sink_kept { OnOk result (K.faults sink.new ≡ K.faults sink.old) }
+    ensures cause { IfErr result (λ e. EndsOlt e (L.faults link.old) (L.faults link.new)
+        (K.faults sink.old) (K.faults sink.new)) }
+{
+    call(link, address)?;
+    let mut room = Room::new(alloc);
+    let mut lines = Lines::new(alloc);
+    let mut goes_on = true;
+    while goes_on {
+        goes_on = one_turn(seat, turns, orders, &mut room, &mut lines, sink, link)?;
+    }
+    let last = left_line(alloc, seat, orders)?;
+    write_out(sink, &last)?;
+    Ok(())
+}
+
 /// Runs the manager over the orders and the link at that address, for at most so many turns. Before
 /// each turn the next order is given where the manager waits for nothing, and the run ends where
 /// none is left; then the manager takes what the link gives, a packet or a second without one. A
@@ -123,14 +157,5 @@ pub fn run_olt<K: Sink, L: Link>(
         (K.faults sink.old) (K.faults sink.new)) }
 {
     let mut seat = Seat::start(alloc, orders)?;
-    call(link, address)?;
-    let mut room = Room::new(alloc);
-    let mut lines = Lines::new(alloc);
-    let mut goes_on = true;
-    while goes_on {
-        goes_on = one_turn(&mut seat, turns, orders, &mut room, &mut lines, sink, link)?;
-    }
-    let last = left_line(alloc, &seat, orders)?;
-    write_out(sink, &last)?;
-    Ok(())
+    take_turns(alloc, address, turns, orders, &mut seat, sink, link)
 }

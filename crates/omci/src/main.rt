@@ -2,9 +2,7 @@
 //! output, a file and a link over UDP.
 #![tactic(auto)]
 
-ghost use Rattle.std.specs.Prelude.{◌≡◌, drop, map, IfOk};
-ghost use Rattle.std.specs.String.{string_bytes};
-
+use command_lines::words_after;
 use omci_core::{NoMemory, StdSink, StdSource, Words};
 use omci_link::UdpLink;
 use omci_top::{Status, omci};
@@ -32,17 +30,6 @@ impl From<AllocError> for NoWords {
     fn from(_error: AllocError) -> NoWords {
         NoWords::NoMemory
     }
-}
-
-/// The words after the program's name, byte for byte.
-fn words_after(alloc: Global, arguments: &[String]) -> Result<Words, NoMemory>
-    ensures words { IfOk result (λ words. words ≡ map string_bytes (drop 1 arguments.now)) }
-{
-    let mut words = Words::new(alloc);
-    for place in 1..arguments.len() {
-        words.push(arguments[place].as_bytes())?;
-    }
-    Ok(words)
 }
 
 /// The words of the command line after the program's name.

@@ -2,7 +2,9 @@
 
 ghost use Rattle.std.specs.Prelude.{◌≡◌, ◌≢◌, ◌++◌, Some, None, OnOk, OnErr, IfOk, IfErr};
 ghost use Rattle.std.specs.Io.KnownBytes.{Appends};
+ghost use Rattle.world_spec.specs.Nodes.{first_nodes};
 ghost use Rattle.world_spec.specs.Trace.{trace};
+ghost use Rattle.link_replay.specs.Seen.{WorldStands};
 ghost use Rattle.whole_writes.specs.Writing.{WritesFront};
 ghost use Rattle.trace_lines.specs.Writing.{EndsRun};
 ghost use Rattle.omci_top.specs.Texts.{input_text};
@@ -70,35 +72,47 @@ fn refuse<K: Sink>(alloc: Global, place: u64, reason: u8, sink: &mut K) -> Resul
     Ok(())
 }
 
-/// Runs a script over both ends, writes its trace, and gives the world that ran it.
-fn run<K: Sink>(alloc: Global, script: &Script, sink: &mut K) -> Result<World, RunFault>
-    ensures ended { IfOk result (λ world. StandsAfter script.now (Some world)) }
-    ensures traced { OnOk result
-        (Appends (K.written sink.old) (K.written sink.new) (trace script.now)) }
-    ensures kept { OnOk result (K.faults sink.new ≡ K.faults sink.old) }
-    ensures front { OnErr result
-        (WritesFront (trace script.now) (K.written sink.old) (K.written sink.new)) }
-    ensures cause { IfErr result (λ e. EndsRun e (K.faults sink.old) (K.faults sink.new)) }
+/// Runs a script over a world that was made for it, and writes its trace.
+fn run_over<K: Sink>(world: &mut World, script: &Script, sink: &mut K) -> Status
+    requires begun { WorldStands world.old (first_nodes script.now.header) }
+    ensures ended { result ≡ Status.Done → StandsAfter script.now (Some world.new) }
+    ensures ran { Ran result (trace script.now)
+        (K.written sink.old) (K.written sink.new) (K.faults sink.old) (K.faults sink.new) }
 {
-    let mut world = World::new(alloc, script.header())?;
-    world.run(script, sink)?;
-    Ok(world)
+    match world.run(script, sink) {
+        Ok(()) => Status::Done,
+        Err(RunFault::NoMemory) => Status::NoMemory,
+        Err(RunFault::Write) => Status::WriteFault,
+    }
 }
 
-/// Runs a script and writes its trace.
+/// The world of a run that was done; the world of another run is let go.
+fn world_where_done(status: Status, world: World) -> Option<World>
+    ensures done { status ≡ Status.Done → result ≡ Some world }
+    ensures otherwise { status ≢ Status.Done → result ≡ None }
+{
+    match status {
+        Status::Done => Some(world),
+        _ => None,
+    }
+}
+
+/// Runs a script over both ends, writes its trace, and gives the world that ran it.
 fn run_script<K: Sink>(alloc: Global, script: &Script, sink: &mut K) -> Replayed
     ensures ended { result.status ≡ Status.Done → StandsAfter script.now result.world }
     ensures no_world { result.status ≢ Status.Done → result.world ≡ None }
     ensures ran { Ran result.status (trace script.now)
         (K.written sink.old) (K.written sink.new) (K.faults sink.old) (K.faults sink.new) }
 {
-    match run(alloc, script, sink) {
-        Ok(world) => Replayed {
-            status: Status::Done,
-            world: Some(world),
-        },
-        Err(RunFault::NoMemory) => without_world(Status::NoMemory),
-        Err(RunFault::Write) => without_world(Status::WriteFault),
+    match World::new(alloc, script.header()) {
+        Ok(mut world) => {
+            let status = run_over(&mut world, script, sink);
+            Replayed {
+                status,
+                world: world_where_done(status, world),
+            }
+        }
+        Err(NoMemory) => without_world(Status::NoMemory),
     }
 }
 

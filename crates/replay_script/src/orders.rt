@@ -10,7 +10,7 @@ use crate::script::Event;
 use std::marker::Model;
 
 /// The first numbers of a manager's two lanes, 1 to 32,767 each.
-#[derive(Clone, Copy, Debug, PartialEq, Eq)]
+#[derive(Clone, Copy)]
 pub(crate) struct FirstNumbers {
     pub(crate) low: u16,
     pub(crate) high: u16,
@@ -18,7 +18,7 @@ pub(crate) struct FirstNumbers {
 
 /// Orders: the first numbers of a manager's two lanes, and events that are all the manager's.
 /// Contracts see what they say, and each number and string of bytes is in its range.
-#[derive(Debug, Drop)]
+#[derive(Drop)]
 pub struct Orders {
     numbers: FirstNumbers,
     events: Vec<Event>,

@@ -8,7 +8,9 @@ ghost use Rattle.script_spec.specs.Text.{lane_text};
 ghost use Rattle.script_spec.specs.Canonical.{hex_text, action_text, header_text, canonical};
 ghost use Rattle.script_spec.specs.Canonical.{check_text, pick_text};
 ghost use Rattle.script_spec.specs.Reading.{reading};
+ghost use Rattle.std.specs.List.{flat_map};
 ghost use Rattle.replay_script.specs.Events.{action_of, header_of};
+ghost use Rattle.replay_script.specs.Printed.{word_text, words_text};
 
 use crate::script::{Event, Header, Script};
 use itoa::Buffer;
@@ -37,13 +39,13 @@ fn put_header(alloc: Global, out: &mut Vec<u8>, header: &Header) -> Result<(), N
     ensures appended { OnOk result
         (out.new.items ≡ out.old.items ++ header_text (header_of header.now)) }
 {
-    put(out, b"omci 1")?;
-    put_number(out, u64::from(header.room))?;
-    put_number(out, u64::from(header.low))?;
-    put_number(out, u64::from(header.high))?;
-    put_bytes(alloc, out, header.factory.bytes())?;
-    put(out, b"\n")?;
-    Ok(())
+    let words = [
+        Word::Number(u64::from(header.room)),
+        Word::Number(u64::from(header.low)),
+        Word::Number(u64::from(header.high)),
+        Word::Bytes(header.factory.bytes()),
+    ];
+    put_line(alloc, out, b"omci 1", &words)
 }
 
 /// Appends an event's line.
@@ -53,9 +55,9 @@ fn put_event(alloc: Global, out: &mut Vec<u8>, event: &Event) -> Result<(), NoMe
         (out.new.items ≡ out.old.items ++ action_text (action_of event.now)) }
 {
     match event {
-        Event::Probe { lane } => put_on_lane(out, b"probe", *lane),
-        Event::Reset { lane } => put_on_lane(out, b"reset", *lane),
-        Event::Get { lane, entity, mask } => put_get(out, *lane, *entity, *mask),
+        Event::Probe { lane } => put_on_lane(alloc, out, b"probe", *lane),
+        Event::Reset { lane } => put_on_lane(alloc, out, b"reset", *lane),
+        Event::Get { lane, entity, mask } => put_get(alloc, out, *lane, *entity, *mask),
         Event::Create {
             lane,
             entity,
@@ -67,10 +69,10 @@ fn put_event(alloc: Global, out: &mut Vec<u8>, event: &Event) -> Result<(), NoMe
             mask,
             values,
         } => put_set(alloc, out, *lane, *entity, *mask, values.bytes()),
-        Event::Delete { lane, entity } => put_delete(out, *lane, *entity),
-        Event::Activate { lane, slot } => put_activate(out, *lane, *slot),
-        Event::Commit { lane, slot } => put_commit(out, *lane, *slot),
-        Event::Reboot { lane } => put_on_lane(out, b"reboot", *lane),
+        Event::Delete { lane, entity } => put_delete(alloc, out, *lane, *entity),
+        Event::Activate { lane, slot } => put_activate(alloc, out, *lane, *slot),
+        Event::Commit { lane, slot } => put_commit(alloc, out, *lane, *slot),
+        Event::Reboot { lane } => put_on_lane(alloc, out, b"reboot", *lane),
         Event::Resync => put(out, b"resync\n"),
         Event::Audit => put(out, b"audit\n"),
         Event::Check => put(out, b"check\n"),
@@ -80,9 +82,9 @@ fn put_event(alloc: Global, out: &mut Vec<u8>, event: &Event) -> Result<(), NoMe
             crc,
             image,
         } => put_image(alloc, out, *slot, *window, *crc, image.bytes()),
-        Event::Deliver { packet } => put_deliver(out, *packet),
-        Event::Flow { times } => put_flow(out, u64::from(*times)),
-        Event::CutIn { packet, call, pick } => put_cut_in(out, *packet, *call, *pick),
+        Event::Deliver { packet } => put_deliver(alloc, out, *packet),
+        Event::Flow { times } => put_flow(alloc, out, u64::from(*times)),
+        Event::CutIn { packet, call, pick } => put_cut_in(alloc, out, *packet, *call, *pick),
         Event::NoiseUnit { bytes } => put_noise_unit(alloc, out, bytes.bytes()),
         Event::NoiseOlt { bytes } => put_noise_olt(alloc, out, bytes.bytes()),
         Event::Tick => put(out, b"tick\n"),
@@ -95,45 +97,42 @@ fn put_event(alloc: Global, out: &mut Vec<u8>, event: &Event) -> Result<(), NoMe
         Event::CutUnit => put(out, b"cut unit\n"),
         Event::CutOlt => put(out, b"cut olt\n"),
         Event::StartUnit => put(out, b"start unit\n"),
-        Event::StartOlt { low, high } => put_start_olt(out, *low, *high),
+        Event::StartOlt { low, high } => put_start_olt(alloc, out, *low, *high),
     }
 }
 
 /// Appends a line of a name and a lane.
-fn put_on_lane(out: &mut Vec<u8>, name: &[u8], lane: Priority) -> Result<(), NoMemory>
+fn put_on_lane(
+    alloc: Global,
+    out: &mut Vec<u8>,
+    name: &[u8],
+    lane: Priority,
+) -> Result<(), NoMemory>
     ensures appended { OnOk result
         (out.new.items ≡ out.old.items ++ name.now ++ 32 ∷ lane_text lane ++ 10 ∷ []) }
 {
-    put(out, name)?;
-    put_lane(out, lane)?;
-    put(out, b"\n")?;
-    Ok(())
+    let words = [Word::Lane(lane)];
+    put_line(alloc, out, name, &words)
 }
 
 /// Appends the line of an activate.
 #[tactic(auto, unfolding(script_spec::specs::Canonical::line_text))]
-fn put_activate(out: &mut Vec<u8>, lane: Priority, slot: u8) -> Result<(), NoMemory>
+fn put_activate(alloc: Global, out: &mut Vec<u8>, lane: Priority, slot: u8) -> Result<(), NoMemory>
     ensures appended { OnOk result
         (out.new.items ≡ out.old.items ++ action_text (spec.Activate lane slot)) }
 {
-    put(out, b"activate")?;
-    put_lane(out, lane)?;
-    put_number(out, u64::from(slot))?;
-    put(out, b"\n")?;
-    Ok(())
+    let words = [Word::Lane(lane), Word::Number(u64::from(slot))];
+    put_line(alloc, out, b"activate", &words)
 }
 
 /// Appends the line of a commit.
 #[tactic(auto, unfolding(script_spec::specs::Canonical::line_text))]
-fn put_commit(out: &mut Vec<u8>, lane: Priority, slot: u8) -> Result<(), NoMemory>
+fn put_commit(alloc: Global, out: &mut Vec<u8>, lane: Priority, slot: u8) -> Result<(), NoMemory>
     ensures appended { OnOk result
         (out.new.items ≡ out.old.items ++ action_text (spec.Commit lane slot)) }
 {
-    put(out, b"commit")?;
-    put_lane(out, lane)?;
-    put_number(out, u64::from(slot))?;
-    put(out, b"\n")?;
-    Ok(())
+    let words = [Word::Lane(lane), Word::Number(u64::from(slot))];
+    put_line(alloc, out, b"commit", &words)
 }
 
 /// Appends the line of a download.
@@ -146,16 +145,257 @@ fn put_image(
     check: Option<u32>,
     image: &[u8],
 ) -> Result<(), NoMemory>
-    ensures appended { OnOk result (out.new.items
-        ≡ out.old.items ++ action_text (spec.Image slot window check image.now)) }
+    ensures appended { OnOk result
+        (out.new.items ≡ out.old.items ++ action_text (spec.Image slot window check image.now)) }
 {
-    put(out, b"image")?;
-    put_number(out, u64::from(slot))?;
-    put_number(out, u64::from(window))?;
-    put_check(alloc, out, check)?;
-    put_bytes(alloc, out, image)?;
-    put(out, b"\n")?;
+    let words = [
+        Word::Number(u64::from(slot)),
+        Word::Number(u64::from(window)),
+        Word::Check(check),
+        Word::Bytes(image),
+    ];
+    put_line(alloc, out, b"image", &words)
+}
+
+/// Appends the line of a cut amid a delivery.
+#[tactic(auto, unfolding(script_spec::specs::Canonical::line_text))]
+fn put_cut_in(
+    alloc: Global,
+    out: &mut Vec<u8>,
+    packet: u64,
+    call: u64,
+    pick: Pick,
+) -> Result<(), NoMemory>
+    ensures appended { OnOk result
+        (out.new.items ≡ out.old.items ++ action_text (spec.CutIn packet call pick)) }
+{
+    let words = [Word::Number(packet), Word::Number(call), Word::Pick(pick)];
+    put_line(alloc, out, b"cutin", &words)
+}
+
+/// Appends the line of a get.
+#[tactic(auto, unfolding(script_spec::specs::Canonical::line_text))]
+fn put_get(
+    alloc: Global,
+    out: &mut Vec<u8>,
+    lane: Priority,
+    entity: EntityId,
+    mask: u16,
+) -> Result<(), NoMemory>
+    ensures appended { OnOk result
+        (out.new.items ≡ out.old.items ++ action_text (spec.Get lane entity mask)) }
+{
+    let words = [
+        Word::Lane(lane),
+        Word::Number(u64::from(entity.class)),
+        Word::Number(u64::from(entity.instance)),
+        Word::Mask(mask),
+    ];
+    put_line(alloc, out, b"get", &words)
+}
+
+/// Appends the line of a create.
+#[tactic(auto, unfolding(script_spec::specs::Canonical::line_text))]
+fn put_create(
+    alloc: Global,
+    out: &mut Vec<u8>,
+    lane: Priority,
+    entity: EntityId,
+    values: &[u8],
+) -> Result<(), NoMemory>
+    ensures appended { OnOk result
+        (out.new.items ≡ out.old.items ++ action_text (spec.Create lane entity values.now)) }
+{
+    let words = [
+        Word::Lane(lane),
+        Word::Number(u64::from(entity.class)),
+        Word::Number(u64::from(entity.instance)),
+        Word::Bytes(values),
+    ];
+    put_line(alloc, out, b"create", &words)
+}
+
+/// Appends the line of a set.
+#[tactic(auto, unfolding(script_spec::specs::Canonical::line_text))]
+fn put_set(
+    alloc: Global,
+    out: &mut Vec<u8>,
+    lane: Priority,
+    entity: EntityId,
+    mask: u16,
+    values: &[u8],
+) -> Result<(), NoMemory>
+    ensures appended { OnOk result
+        (out.new.items ≡ out.old.items ++ action_text (spec.Set lane entity mask values.now)) }
+{
+    let words = [
+        Word::Lane(lane),
+        Word::Number(u64::from(entity.class)),
+        Word::Number(u64::from(entity.instance)),
+        Word::Mask(mask),
+        Word::Bytes(values),
+    ];
+    put_line(alloc, out, b"set", &words)
+}
+
+/// Appends the line of a delete.
+#[tactic(auto, unfolding(script_spec::specs::Canonical::line_text))]
+fn put_delete(
+    alloc: Global,
+    out: &mut Vec<u8>,
+    lane: Priority,
+    entity: EntityId,
+) -> Result<(), NoMemory>
+    ensures appended { OnOk result
+        (out.new.items ≡ out.old.items ++ action_text (spec.Delete lane entity)) }
+{
+    let words = [
+        Word::Lane(lane),
+        Word::Number(u64::from(entity.class)),
+        Word::Number(u64::from(entity.instance)),
+    ];
+    put_line(alloc, out, b"delete", &words)
+}
+
+/// Appends the line of a delivery.
+#[tactic(auto, unfolding(script_spec::specs::Canonical::line_text))]
+fn put_deliver(alloc: Global, out: &mut Vec<u8>, packet: u64) -> Result<(), NoMemory>
+    ensures appended { OnOk result
+        (out.new.items ≡ out.old.items ++ action_text (spec.Deliver packet)) }
+{
+    let words = [Word::Number(packet)];
+    put_line(alloc, out, b"deliver", &words)
+}
+
+/// Appends the line of a flow.
+#[tactic(auto, unfolding(script_spec::specs::Canonical::line_text))]
+fn put_flow(alloc: Global, out: &mut Vec<u8>, times: u64) -> Result<(), NoMemory>
+    ensures appended { OnOk result
+        (out.new.items ≡ out.old.items ++ action_text (spec.Flow times)) }
+{
+    let words = [Word::Number(times)];
+    put_line(alloc, out, b"flow", &words)
+}
+
+/// Appends the line of noise at the unit.
+#[tactic(auto, unfolding(script_spec::specs::Canonical::line_text))]
+fn put_noise_unit(alloc: Global, out: &mut Vec<u8>, bytes: &[u8]) -> Result<(), NoMemory>
+    ensures appended { OnOk result
+        (out.new.items ≡ out.old.items ++ action_text (spec.NoiseUnit bytes.now)) }
+{
+    let words = [Word::Bytes(bytes)];
+    put_line(alloc, out, b"noise unit", &words)
+}
+
+/// Appends the line of noise at the manager.
+#[tactic(auto, unfolding(script_spec::specs::Canonical::line_text))]
+fn put_noise_olt(alloc: Global, out: &mut Vec<u8>, bytes: &[u8]) -> Result<(), NoMemory>
+    ensures appended { OnOk result
+        (out.new.items ≡ out.old.items ++ action_text (spec.NoiseOlt bytes.now)) }
+{
+    let words = [Word::Bytes(bytes)];
+    put_line(alloc, out, b"noise olt", &words)
+}
+
+/// Appends the line of a measured value.
+#[tactic(auto, unfolding(script_spec::specs::Canonical::line_text))]
+fn put_sense(
+    alloc: Global,
+    out: &mut Vec<u8>,
+    entity: EntityId,
+    number: u8,
+    value: &[u8],
+) -> Result<(), NoMemory>
+    ensures appended { OnOk result
+        (out.new.items ≡ out.old.items ++ action_text (spec.Sense entity number value.now)) }
+{
+    let words = [
+        Word::Number(u64::from(entity.class)),
+        Word::Number(u64::from(entity.instance)),
+        Word::Number(u64::from(number)),
+        Word::Bytes(value),
+    ];
+    put_line(alloc, out, b"sense", &words)
+}
+
+/// Appends the line of an entity's alarms.
+#[tactic(auto, unfolding(script_spec::specs::Canonical::line_text))]
+fn put_alarm(
+    alloc: Global,
+    out: &mut Vec<u8>,
+    entity: EntityId,
+    bitmap: &[u8],
+) -> Result<(), NoMemory>
+    ensures appended { OnOk result
+        (out.new.items ≡ out.old.items ++ action_text (spec.Alarm entity bitmap.now)) }
+{
+    let words = [
+        Word::Number(u64::from(entity.class)),
+        Word::Number(u64::from(entity.instance)),
+        Word::Bytes(bitmap),
+    ];
+    put_line(alloc, out, b"alarm", &words)
+}
+
+/// Appends the line of a manager's start.
+#[tactic(auto, unfolding(script_spec::specs::Canonical::line_text))]
+fn put_start_olt(alloc: Global, out: &mut Vec<u8>, low: u16, high: u16) -> Result<(), NoMemory>
+    ensures appended { OnOk result
+        (out.new.items ≡ out.old.items ++ action_text (spec.StartOlt low high)) }
+{
+    let words = [Word::Number(u64::from(low)), Word::Number(u64::from(high))];
+    put_line(alloc, out, b"start olt", &words)
+}
+
+/// A word after the name of a line.
+#[derive(Clone, Copy)]
+pub(crate) enum Word<'a> {
+    Lane(Priority),
+    Number(u64),
+    Mask(u16),
+    Check(Option<u32>),
+    Pick(Pick),
+    Bytes(&'a [u8]),
+}
+
+/// Appends a line of a name and these words.
+fn put_line(
+    alloc: Global,
+    out: &mut Vec<u8>,
+    name: &[u8],
+    words: &[Word<'_>],
+) -> Result<(), NoMemory>
+    ensures appended { OnOk result
+        (out.new.items ≡ out.old.items ++ name.now ++ words_text words.now) }
+{
+    put(out, name)?;
+    put_words(alloc, out, words)?;
+    put(out, b"\n")
+}
+
+/// Appends words, each after a space.
+fn put_words(alloc: Global, out: &mut Vec<u8>, words: &[Word<'_>]) -> Result<(), NoMemory>
+    ensures appended { OnOk result
+        (out.new.items ≡ out.old.items ++ flat_map word_text words.now) }
+{
+    for word in words {
+        put_word(alloc, out, word)?;
+    }
     Ok(())
+}
+
+/// Appends a word after a space.
+fn put_word(alloc: Global, out: &mut Vec<u8>, word: &Word<'_>) -> Result<(), NoMemory>
+    ensures appended { OnOk result (out.new.items ≡ out.old.items ++ word_text word.now) }
+{
+    match word {
+        Word::Lane(lane) => put_lane(out, *lane),
+        Word::Number(number) => put_number(out, *number),
+        Word::Mask(mask) => put_mask(out, *mask),
+        Word::Check(check) => put_check(alloc, out, *check),
+        Word::Pick(pick) => put_pick(out, *pick),
+        Word::Bytes(bytes) => put_bytes(alloc, out, bytes),
+    }
 }
 
 /// Appends a space and a check value, or `-` for none.
@@ -166,20 +406,6 @@ fn put_check(alloc: Global, out: &mut Vec<u8>, check: Option<u32>) -> Result<(),
         None => put(out, b" -"),
         Some(check) => put_bytes(alloc, out, check.to_be_bytes().as_slice()),
     }
-}
-
-/// Appends the line of a cut amid a delivery.
-#[tactic(auto, unfolding(script_spec::specs::Canonical::line_text))]
-fn put_cut_in(out: &mut Vec<u8>, packet: u64, call: u64, pick: Pick) -> Result<(), NoMemory>
-    ensures appended { OnOk result
-        (out.new.items ≡ out.old.items ++ action_text (spec.CutIn packet call pick)) }
-{
-    put(out, b"cutin")?;
-    put_number(out, packet)?;
-    put_number(out, call)?;
-    put_pick(out, pick)?;
-    put(out, b"\n")?;
-    Ok(())
 }
 
 /// Appends a space and what a cut gives to each byte.
@@ -196,180 +422,6 @@ fn put_pick(out: &mut Vec<u8>, pick: Pick) -> Result<(), NoMemory>
             put(out, &digits)
         }
     }
-}
-
-/// Appends the line of a get.
-#[tactic(auto, unfolding(script_spec::specs::Canonical::line_text))]
-fn put_get(out: &mut Vec<u8>, lane: Priority, entity: EntityId, mask: u16) -> Result<(), NoMemory>
-    ensures appended { OnOk result
-        (out.new.items ≡ out.old.items ++ action_text (spec.Get lane entity mask)) }
-{
-    put(out, b"get")?;
-    put_lane(out, lane)?;
-    put_number(out, u64::from(entity.class))?;
-    put_number(out, u64::from(entity.instance))?;
-    put_mask(out, mask)?;
-    put(out, b"\n")?;
-    Ok(())
-}
-
-/// Appends the line of a create.
-#[tactic(auto, unfolding(script_spec::specs::Canonical::line_text))]
-fn put_create(
-    alloc: Global,
-    out: &mut Vec<u8>,
-    lane: Priority,
-    entity: EntityId,
-    values: &[u8],
-) -> Result<(), NoMemory>
-    ensures appended { OnOk result
-        (out.new.items ≡ out.old.items ++ action_text (spec.Create lane entity values.now)) }
-{
-    put(out, b"create")?;
-    put_lane(out, lane)?;
-    put_number(out, u64::from(entity.class))?;
-    put_number(out, u64::from(entity.instance))?;
-    put_bytes(alloc, out, values)?;
-    put(out, b"\n")?;
-    Ok(())
-}
-
-/// Appends the line of a set.
-#[tactic(auto, unfolding(script_spec::specs::Canonical::line_text))]
-fn put_set(
-    alloc: Global,
-    out: &mut Vec<u8>,
-    lane: Priority,
-    entity: EntityId,
-    mask: u16,
-    values: &[u8],
-) -> Result<(), NoMemory>
-    ensures appended { OnOk result
-        (out.new.items ≡ out.old.items ++ action_text (spec.Set lane entity mask values.now)) }
-{
-    put(out, b"set")?;
-    put_lane(out, lane)?;
-    put_number(out, u64::from(entity.class))?;
-    put_number(out, u64::from(entity.instance))?;
-    put_mask(out, mask)?;
-    put_bytes(alloc, out, values)?;
-    put(out, b"\n")?;
-    Ok(())
-}
-
-/// Appends the line of a delete.
-#[tactic(auto, unfolding(script_spec::specs::Canonical::line_text))]
-fn put_delete(out: &mut Vec<u8>, lane: Priority, entity: EntityId) -> Result<(), NoMemory>
-    ensures appended { OnOk result
-        (out.new.items ≡ out.old.items ++ action_text (spec.Delete lane entity)) }
-{
-    put(out, b"delete")?;
-    put_lane(out, lane)?;
-    put_number(out, u64::from(entity.class))?;
-    put_number(out, u64::from(entity.instance))?;
-    put(out, b"\n")?;
-    Ok(())
-}
-
-/// Appends the line of a delivery.
-#[tactic(auto, unfolding(script_spec::specs::Canonical::line_text))]
-fn put_deliver(out: &mut Vec<u8>, packet: u64) -> Result<(), NoMemory>
-    ensures appended { OnOk result
-        (out.new.items ≡ out.old.items ++ action_text (spec.Deliver packet)) }
-{
-    put(out, b"deliver")?;
-    put_number(out, packet)?;
-    put(out, b"\n")?;
-    Ok(())
-}
-
-/// Appends the line of a flow.
-#[tactic(auto, unfolding(script_spec::specs::Canonical::line_text))]
-fn put_flow(out: &mut Vec<u8>, times: u64) -> Result<(), NoMemory>
-    ensures appended { OnOk result
-        (out.new.items ≡ out.old.items ++ action_text (spec.Flow times)) }
-{
-    put(out, b"flow")?;
-    put_number(out, times)?;
-    put(out, b"\n")?;
-    Ok(())
-}
-
-/// Appends the line of noise at the unit.
-#[tactic(auto, unfolding(script_spec::specs::Canonical::line_text))]
-fn put_noise_unit(alloc: Global, out: &mut Vec<u8>, bytes: &[u8]) -> Result<(), NoMemory>
-    ensures appended { OnOk result
-        (out.new.items ≡ out.old.items ++ action_text (spec.NoiseUnit bytes.now)) }
-{
-    put(out, b"noise unit")?;
-    put_bytes(alloc, out, bytes)?;
-    put(out, b"\n")?;
-    Ok(())
-}
-
-/// Appends the line of noise at the manager.
-#[tactic(auto, unfolding(script_spec::specs::Canonical::line_text))]
-fn put_noise_olt(alloc: Global, out: &mut Vec<u8>, bytes: &[u8]) -> Result<(), NoMemory>
-    ensures appended { OnOk result
-        (out.new.items ≡ out.old.items ++ action_text (spec.NoiseOlt bytes.now)) }
-{
-    put(out, b"noise olt")?;
-    put_bytes(alloc, out, bytes)?;
-    put(out, b"\n")?;
-    Ok(())
-}
-
-/// Appends the line of a measured value.
-#[tactic(auto, unfolding(script_spec::specs::Canonical::line_text))]
-fn put_sense(
-    alloc: Global,
-    out: &mut Vec<u8>,
-    entity: EntityId,
-    number: u8,
-    value: &[u8],
-) -> Result<(), NoMemory>
-    ensures appended { OnOk result
-        (out.new.items ≡ out.old.items ++ action_text (spec.Sense entity number value.now)) }
-{
-    put(out, b"sense")?;
-    put_number(out, u64::from(entity.class))?;
-    put_number(out, u64::from(entity.instance))?;
-    put_number(out, u64::from(number))?;
-    put_bytes(alloc, out, value)?;
-    put(out, b"\n")?;
-    Ok(())
-}
-
-/// Appends the line of an entity's alarms.
-#[tactic(auto, unfolding(script_spec::specs::Canonical::line_text))]
-fn put_alarm(
-    alloc: Global,
-    out: &mut Vec<u8>,
-    entity: EntityId,
-    bitmap: &[u8],
-) -> Result<(), NoMemory>
-    ensures appended { OnOk result
-        (out.new.items ≡ out.old.items ++ action_text (spec.Alarm entity bitmap.now)) }
-{
-    put(out, b"alarm")?;
-    put_number(out, u64::from(entity.class))?;
-    put_number(out, u64::from(entity.instance))?;
-    put_bytes(alloc, out, bitmap)?;
-    put(out, b"\n")?;
-    Ok(())
-}
-
-/// Appends the line of a manager's start.
-#[tactic(auto, unfolding(script_spec::specs::Canonical::line_text))]
-fn put_start_olt(out: &mut Vec<u8>, low: u16, high: u16) -> Result<(), NoMemory>
-    ensures appended { OnOk result
-        (out.new.items ≡ out.old.items ++ action_text (spec.StartOlt low high)) }
-{
-    put(out, b"start olt")?;
-    put_number(out, u64::from(low))?;
-    put_number(out, u64::from(high))?;
-    put(out, b"\n")?;
-    Ok(())
 }
 
 /// Appends a lane's name after a space.

@@ -30,7 +30,7 @@ impl<T: Drop> From<AllocFailed<T>> for ScriptRefusal {
 }
 
 /// Why a line was not read: the reason of its fault, or want of memory.
-#[derive(Clone, Copy, Debug, PartialEq, Eq)]
+#[derive(Clone, Copy)]
 pub(crate) enum LineRefusal {
     Reason(u8),
     NoMemory,

@@ -26,7 +26,7 @@ pub struct Header {
 
 /// What a line of a script, or of orders, asks for. Bytes are kept as they were written; they are
 /// filled when the event is run.
-#[derive(Debug, PartialEq, Eq, Drop)]
+#[derive(PartialEq, Eq, Drop)]
 pub enum Event {
     /// The manager asks for the unit's MIB data sync, to see that the lane is alive.
     Probe {
@@ -143,7 +143,7 @@ pub enum Event {
 
 /// A script: a header, and events. Contracts see what it says, and each of its numbers and bytes is
 /// in its range.
-#[derive(Debug, Drop)]
+#[derive(Drop)]
 pub struct Script {
     header: Header,
     events: Vec<Event>,

@@ -2,9 +2,9 @@ use Rattle.std.proofs.Common.{◌≡◌, true, false, not, Err, rules, refl, ◌
 use Rattle.std.proofs.lemmas.Result.{err_from_is_err_and}
 use Rattle.std.specs.Io.KnownBytes.{Appends}
 use Rattle.whole_writes.specs.Writing.{WritesFront}
-use Rattle.olt_turns.specs.Seat.{state_of, Hears, HearsInPart}
+use Rattle.olt_seat.specs.Seat.{state_of, Hears, HearsInPart}
 use Rattle.olt_turns.proofs.Turning.{opening_part, turn_over, turn_part, turn_unwritten, turn_ran}
-use Rattle.olt_turns.proofs.Hearing.{begun_so, grown, stops_ends}
+use Rattle.olt_turns.proofs.Ending.{begun_so, grown, stops_ends}
 use Rattle.olt_turns.proofs.run.one_turn.Goals as goal
 
 -- ---- a fault in what stands before the turn

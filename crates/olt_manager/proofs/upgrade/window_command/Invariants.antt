@@ -1,5 +1,0 @@
-use Rattle.olt_manager.proofs.Sections.{CutSoFar}
-use Rattle.olt_manager.proofs.upgrade.window_command.Given as goal
-
-abbrev pub invariant-loop-number : goal.invariant-loop-number
-invariant-loop-number l = CutSoFar l.outbox l.number l.sections
