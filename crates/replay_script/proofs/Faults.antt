@@ -5,9 +5,9 @@ use Rattle.script_spec.specs.Script.{Action}
 use Rattle.script_spec.specs.Text.{lines_of, words_of, is_passed_over, opening}
 use Rattle.script_spec.specs.Reading.{on_line, as_header, line_action, event_at, events_reading}
 use Rattle.script_spec.specs.Reading.{whole_reading}
-use Rattle.replay_script.specs.Answers.{FailsScript, LacksHeader}
-use Rattle.replay_script.specs.declared.refusal.ScriptRefusal.{ScriptRefusal}
-use Rattle.replay_script.specs.declared.refusal.ScriptRefusal.TheVariants.{Fault, NoMemory}
+use Rattle.line_words.specs.Answers.{FailsScript, LacksHeader}
+use Rattle.line_words.specs.declared.refusal.ScriptRefusal.{ScriptRefusal}
+use Rattle.line_words.specs.declared.refusal.ScriptRefusal.TheVariants.{Fault, NoMemory}
 use Rattle.replay_script.proofs.Loops.{with_front, fails, no_event, no_opening, no_header}
 use Rattle.replay_script.proofs.Loops.{no_events}
 

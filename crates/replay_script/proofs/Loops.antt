@@ -103,20 +103,6 @@ no_event document line text fault plain read =
 
 -- ---- the header's line
 
-pub passed_line : (line : ℕ) (text : List ℕ) (lines : List (List ℕ)) → is_passed_over text ≡ true
-    → opening line (text ∷ lines) ≡ opening (line + 1) lines
-unfolding opening
-passed_line line text lines passed = rw passed refl
-
-pub plain_line : (line : ℕ) (text : List ℕ) (lines : List (List ℕ)) → is_passed_over text ≡ false
-    → opening line (text ∷ lines) ≡ (line, text ∷ lines)
-unfolding opening
-plain_line line text lines plain = rw plain refl
-
-pub no_line : (line : ℕ) → opening line [] ≡ (line, [])
-unfolding opening
-no_line line = refl
-
 module _ {A B : Type 0} (head : List (List ℕ) → Result A ℕ) (made : A → List Action → B)
     (document : Document) (bytes : List ℕ) where
   pub no_opening : (line : ℕ) → opening 1 (lines_of bytes) ≡ (line, [])
@@ -167,9 +153,3 @@ module _ {A B : Type 0} (head : List (List ℕ) → Result A ℕ) (made : A → 
   whole line text lines header actions opens is events =
       after_header line text lines header opens is
       ∙ ap (λ read. read >>= λ actions. Ok (made header actions)) events
-
--- no line is left of no bytes
-pub lines_of-empty : (bytes : List ℕ) → length bytes ≡ 0 → lines_of bytes ≡ []
-unfolding lines_of
-lines_of-empty [] e = refl
-lines_of-empty (b ∷ bytes) e = absurd (omega arith)

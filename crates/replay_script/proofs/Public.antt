@@ -3,9 +3,9 @@ use Rattle.std.proofs.Common.{◌≡◌, ℕ, List, inl, inr, Option, Some, Resu
 use Rattle.std.proofs.Common.{refl}
 use Rattle.std.specs.Prelude.{IfOk, IfErr}
 use Rattle.script_laws.proofs.Steps.{ok_same}
-use Rattle.replay_script.specs.declared.refusal.ScriptRefusal.{ScriptRefusal}
-use Rattle.replay_script.specs.declared.refusal.ScriptRefusal.TheVariants.{Fault, NoMemory}
-use Rattle.replay_script.specs.Answers.{GivesScript, ReadsOnly, IsFaultOf, RefusesOnly}
+use Rattle.line_words.specs.declared.refusal.ScriptRefusal.{ScriptRefusal}
+use Rattle.line_words.specs.declared.refusal.ScriptRefusal.TheVariants.{Fault, NoMemory}
+use Rattle.line_words.specs.Answers.{GivesScript, ReadsOnly, IsFaultOf, RefusesOnly}
 
 -- an answer that is what reading gives, unless memory ran out
 abbrev pub IsReading : {A : Type 0} → Result A ScriptRefusal → Result A (ℕ × ℕ) → Type 0

@@ -2,12 +2,11 @@
 
 ghost use Rattle.std.specs.Prelude.{◌≡◌};
 ghost use Rattle.script_spec.specs.Reading.{action_at, line_action};
-ghost use Rattle.replay_script.specs.Answers.{Gives};
+ghost use Rattle.line_words.specs.Answers.{Gives};
 ghost use Rattle.replay_script.specs.Events.{action_of};
 
-use crate::refusal::LineRefusal;
 use crate::script::Event;
-use crate::words::LineWords;
+use line_words::{LineRefusal, LineWords};
 use omci_core::EntityId;
 use script_spec::{
     Document, LAST_PACKET, Line, MAX_ASKED, MAX_ATTRIBUTE, MAX_CALL, MAX_FLOW, MAX_IMAGE,

@@ -3,19 +3,14 @@
 #![tactic(auto)]
 
 mod events;
-mod few_bytes;
-mod lines;
 mod orders;
 mod printing;
 mod reading;
-mod refusal;
 mod script;
-mod words;
 
-pub use few_bytes::FewBytes;
+pub use line_words::{FewBytes, ScriptRefusal};
 pub use orders::Orders;
 pub use printing::print;
 pub use reading::{read, read_orders};
-pub use refusal::ScriptRefusal;
 pub use script::{Event, Header, Script};
 pub use slot_spec::Pick as CutPick;

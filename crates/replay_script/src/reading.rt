@@ -10,16 +10,14 @@ ghost use Rattle.script_spec.specs.Reading.{on_line, event_at, events_reading, r
 ghost use Rattle.script_spec.specs.Reading.{orders_reading};
 ghost use Rattle.script_spec.specs.Grammar.{Writes, WritesOrders};
 ghost use Rattle.script_spec.specs.Fault.{fault, orders_fault};
-ghost use Rattle.replay_script.specs.Answers.{Gives, GivesScript, FailsScript, ReadsOnly};
-ghost use Rattle.replay_script.specs.Answers.{IsFaultOf, RefusesOnly};
+ghost use Rattle.line_words.specs.Answers.{Gives, GivesScript, FailsScript, ReadsOnly};
+ghost use Rattle.line_words.specs.Answers.{IsFaultOf, RefusesOnly};
 ghost use Rattle.replay_script.specs.Events.{action_of, header_of, lanes_of};
 
 use crate::events::event_of;
-use crate::lines::{header_line, is_passed_over, next_line};
 use crate::orders::{FirstNumbers, Orders};
-use crate::refusal::{LineRefusal, ScriptRefusal};
 use crate::script::{Event, Header, Script};
-use crate::words::LineWords;
+use line_words::{LineRefusal, LineWords, ScriptRefusal, header_line, is_passed_over, next_line};
 use script_spec::{Document, HEADER_FAULT, MAX_ROOM};
 use std::alloc::Global;
 

@@ -5,7 +5,7 @@ ghost use Rattle.std.specs.List.{All};
 ghost use Rattle.script_spec.specs.Script.{IsHeader, IsAction, IsScript};
 ghost use Rattle.replay_script.specs.Events.{action_of, header_of};
 
-use crate::few_bytes::FewBytes;
+use line_words::FewBytes;
 use omci_core::{Bytes, EntityId, Priority};
 use script_spec::{MAX_BITMAP, MAX_CREATE, MAX_SENSED, MAX_SET};
 use slot_spec::Pick;

@@ -4,7 +4,8 @@ use Rattle.std.proofs.lemmas.Result.{err_from_is_err_and}
 use Rattle.script_spec.specs.Text.{lines_of}
 use Rattle.script_spec.specs.Reading.{events_reading}
 use Rattle.replay_script.specs.Events.{action_of}
-use Rattle.replay_script.proofs.Loops.{with_front, goes_on, ends, lines_of-empty}
+use Rattle.line_words.proofs.Opening.{lines_of-empty}
+use Rattle.replay_script.proofs.Loops.{with_front, goes_on, ends}
 use Rattle.replay_script.proofs.Faults.{events_fail}
 use Rattle.replay_script.proofs.reading.events_of.Goals as goal
 

@@ -1,0 +1,6 @@
+pub mod Opening
+pub mod Numbers
+pub mod Left
+pub mod Names
+pub mod Vectors
+pub mod FewHex

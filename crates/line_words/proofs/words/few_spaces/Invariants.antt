@@ -1,0 +1,7 @@
+use Rattle.std.proofs.Common.{◌≡◌, ◌==◌, ◌≤◌, take}
+use Rattle.std.specs.List.{count_by}
+use Rattle.line_words.proofs.words.few_spaces.Given as goal
+
+abbrev pub invariant-loop-byte : goal.invariant-loop-byte
+invariant-loop-byte l =
+    (l.count ≡ count_by (λ b. b == 32) (take l.byte-index l.text)) × (l.count ≤ l.byte-index)
