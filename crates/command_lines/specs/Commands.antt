@@ -7,8 +7,9 @@ use Rattle.std.specs.Str.{bytes_eq}
 use Rattle.script_spec.specs.Text.{decimal_value}
 use Rattle.command_lines.specs.declared.numbers.TheConstants.{MOST_DIGITS}
 use Rattle.command_lines.specs.declared.TheConstants.{LARGEST_SEED, MOST_TURNS}
+use Rattle.command_lines.specs.declared.Filter.TheVariants.{Plan, Meter, Capture}
 use Rattle.command_lines.specs.declared.Command.{Command}
-use Rattle.command_lines.specs.declared.Command.TheVariants.{Replay, Show, Check, Flash, Drill, Olt, Unit}
+use Rattle.command_lines.specs.declared.Command.TheVariants.{Replay, Show, Check, Filter, Flash, Drill, Olt, Unit}
 
 -- an address or a file's name has a byte at least
 abbrev pub is_name : List ℕ → Bool
@@ -26,13 +27,21 @@ number_of low high word =
     && nat_le (decimal_value word) high then Some (decimal_value word)
     else None
 
+-- the filter of this name
+abbrev pub filter_of : List ℕ → Option Command
+filter_of word =
+    if bytes_eq word (codes "plan") then Some (Filter Plan)
+    else if bytes_eq word (codes "meter") then Some (Filter Meter)
+    else if bytes_eq word (codes "capture") then Some (Filter Capture)
+    else None
+
 -- the command that is a word alone
 abbrev pub alone : List ℕ → Option Command
 alone word =
     if bytes_eq word (codes "replay") then Some Replay
     else if bytes_eq word (codes "show") then Some Show
     else if bytes_eq word (codes "check") then Some Check
-    else None
+    else filter_of word
 
 -- the drill of a number
 abbrev pub drill_of : List ℕ → Option Command

@@ -2,7 +2,7 @@
 #![tactic(auto)]
 
 ghost use Rattle.std.specs.Prelude.{◌≡◌};
-ghost use Rattle.command_lines.specs.Commands.{command_of, alone, drill_of, with_one, olt_of, with_two, unit_of, with_three};
+ghost use Rattle.command_lines.specs.Commands.{command_of, alone, filter_of, drill_of, with_one, olt_of, with_two, unit_of, with_three};
 
 mod numbers;
 mod program;
@@ -17,6 +17,17 @@ pub const LARGEST_SEED: u32 = 4_294_967_295;
 /// The most turns that an end that runs alone may be given.
 pub const MOST_TURNS: u32 = 1_000_000_000;
 
+/// A command that makes a text of a text, and calls nothing but the source and the sink.
+#[derive(Clone, Copy, Debug, PartialEq, Eq)]
+pub enum Filter {
+    /// `plan`: the orders that lead from a copy of a unit's database to what it should have.
+    Plan,
+    /// `meter`: the replies of interval counters to a list of requests, counts and seconds.
+    Meter,
+    /// `capture`: whether a unit answered each request of a capture once and rightly.
+    Capture,
+}
+
 /// What a command line asks for.
 #[derive(Clone, Copy, Debug, PartialEq, Eq)]
 pub enum Command {
@@ -26,6 +37,8 @@ pub enum Command {
     Show,
     /// `check`: reads each frame of a stream as a message, and counts them.
     Check,
+    /// `plan`, `meter` or `capture`: reads a text, and writes what the filter makes of it.
+    Filter { filter: Filter },
     /// `flash FILE`: makes the file a disk of two image slots, with an image in the first. The
     /// file's name is the second word.
     Flash,
@@ -37,6 +50,28 @@ pub enum Command {
     /// `unit ADDRESS FILE TURNS`: runs the unit over the link at the address, with the disk of that
     /// name, for so many turns. Address and file are the second word and the third.
     Unit { turns: u32 },
+}
+
+/// The filter of this name.
+fn filter_of(word: &[u8]) -> Option<Command>
+    ensures value { result ≡ filter_of word.now }
+{
+    if word == b"plan".as_slice() {
+        return Some(Command::Filter {
+            filter: Filter::Plan,
+        });
+    }
+    if word == b"meter".as_slice() {
+        return Some(Command::Filter {
+            filter: Filter::Meter,
+        });
+    }
+    if word == b"capture".as_slice() {
+        return Some(Command::Filter {
+            filter: Filter::Capture,
+        });
+    }
+    None
 }
 
 /// The command that is a word alone.
@@ -52,7 +87,7 @@ fn alone(word: &[u8]) -> Option<Command>
     if word == b"check".as_slice() {
         return Some(Command::Check);
     }
-    None
+    filter_of(word)
 }
 
 /// The drill of a number.

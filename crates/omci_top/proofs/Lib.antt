@@ -1,5 +1,6 @@
 pub mod AnswerLemmas
 pub mod TopLemmas
+pub mod FilterLemmas
 pub mod FlashLemmas
 pub mod OltLemmas
 pub mod UnitLemmas

@@ -4,6 +4,7 @@ pub mod Texts
 pub mod Headline
 pub mod Answers
 pub mod Drills
+pub mod Filters
 pub mod Olts
 pub mod Units
 pub mod Flashes

@@ -2,7 +2,7 @@
 //! the link.
 #![tactic(auto)]
 
-ghost use Rattle.std.specs.Prelude.{◌≡◌, ◌≢◌, ◌↔◌, ◌<◌, ◌≤◌, ℕ, false, List, [], Some, None, length};
+ghost use Rattle.std.specs.Prelude.{◌≡◌, ◌≢◌, ◌↔◌, ◌<◌, ◌≤◌, ℕ, false, List, [], Some, None, Ok, Err, length};
 ghost use Rattle.omci_core.specs.Causes.{Rose};
 ghost use Rattle.script_spec.specs.Script.{Script, Orders};
 ghost use Rattle.script_spec.specs.Grammar.{Writes, WritesOrders};
@@ -14,6 +14,7 @@ ghost use Rattle.command_lines.specs.Commands.{command_of};
 ghost use Rattle.omci_top.specs.Calls.{reads_source, writes_sink, calls_disk, calls_link, runs_world};
 ghost use Rattle.omci_top.specs.Answers.{AnswersReplay};
 ghost use Rattle.omci_top.specs.Drills.{AnswersDrill};
+ghost use Rattle.omci_top.specs.Filters.{AnswersFilter, filtered};
 ghost use Rattle.omci_top.specs.Olts.{AnswersOlt};
 ghost use Rattle.omci_top.specs.Units.{AnswersUnit};
 ghost use Rattle.omci_top.specs.Flashes.{AnswersFlash, IsTooLarge};
@@ -22,6 +23,7 @@ ghost use Rattle.show_spec.specs.Shown.{Passes, none_refused, no_message_refused
 ghost use Rattle.omci_top.specs.Shows.{AnswersShow, AnswersCheck, HasFault, HasNoFault};
 
 mod drill;
+mod filter;
 mod flash;
 mod olt;
 mod replay;
@@ -30,7 +32,7 @@ mod status;
 mod streams;
 mod unit;
 
-pub use command_lines::{Command, command_of};
+pub use command_lines::{Command, Filter, command_of};
 pub use flash::FLASH_ROOM;
 pub use link_replay::World;
 use omci_core::{Sink, Source, Words};
@@ -55,7 +57,8 @@ pub struct End<D: Disk> {
 /// Does what the words ask for. With `replay` a script is read whole from the source and run over
 /// both ends, and its trace is written to the sink. With `show` a stream of frames of both message
 /// sets is read from the source, and the text of each frame is written; with `check` its frames are
-/// counted. With `flash FILE` an image is read whole from the source, and the disk of that name
+/// counted. With `plan`, `meter` or `capture` a text is read whole from the source, and what that
+/// filter makes of it is written. With `flash FILE` an image is read whole from the source, and the disk of that name
 /// becomes one of two slots with the image in slot 0. With `drill N` the script that N makes is run
 /// over both ends, and one line that sums its trace up is written. With `olt ADDRESS TURNS` orders
 /// are read whole, and the manager runs over them and over the link, for at most so many turns.
@@ -78,6 +81,10 @@ pub fn omci<S: Source, K: Sink, D: Disk, L: Link>(
         (S.left source.old) (S.left source.new) (K.written sink.old) (K.written sink.new)
         (S.faults source.old) (S.faults source.new) (K.faults sink.old) (K.faults sink.new) }
     ensures check { command_of words.now ≡ Some Command.Check → AnswersCheck result.status
+        (S.left source.old) (S.left source.new) (K.written sink.old) (K.written sink.new)
+        (S.faults source.old) (S.faults source.new) (K.faults sink.old) (K.faults sink.new) }
+    ensures filter { (filter : Filter) → command_of words.now ≡ Some (Command.Filter filter)
+        → AnswersFilter result.status filter
         (S.left source.old) (S.left source.new) (K.written sink.old) (K.written sink.new)
         (S.faults source.old) (S.faults source.new) (K.faults sink.old) (K.faults sink.new) }
     ensures flash { command_of words.now ≡ Some Command.Flash
@@ -190,6 +197,26 @@ pub fn omci<S: Source, K: Sink, D: Disk, L: Link>(
         → ¬ Rose (K.faults sink.old) (K.faults sink.new)
         → result.status ≢ Status.NoMemory → result.status ≡ Status.TooLong }
 
+    // A text without a fault is filtered, one with a fault is refused for its first one, and more
+    // than 16,777,216 bytes are too long.
+    ensures filter_runs { (filter : Filter) (text bytes : List ℕ)
+        → command_of words.now ≡ Some (Command.Filter filter) → S.left source.old ≡ Some bytes
+        → length bytes ≤ LARGEST_INPUT → filtered filter bytes ≡ Ok text
+        → ¬ Rose (S.faults source.old) (S.faults source.new)
+        → ¬ Rose (K.faults sink.old) (K.faults sink.new)
+        → result.status ≢ Status.NoMemory → result.status ≡ Status.Done }
+    ensures filter_refuses { (filter : Filter) (place reason : ℕ) (bytes : List ℕ)
+        → command_of words.now ≡ Some (Command.Filter filter) → S.left source.old ≡ Some bytes
+        → length bytes ≤ LARGEST_INPUT → filtered filter bytes ≡ Err (place, reason)
+        → ¬ Rose (S.faults source.old) (S.faults source.new)
+        → ¬ Rose (K.faults sink.old) (K.faults sink.new)
+        → result.status ≢ Status.NoMemory → result.status ≡ Status.Input place reason }
+    ensures filter_stops { (filter : Filter) (bytes : List ℕ)
+        → command_of words.now ≡ Some (Command.Filter filter) → S.left source.old ≡ Some bytes
+        → LARGEST_INPUT < length bytes
+        → ¬ Rose (S.faults source.old) (S.faults source.new)
+        → result.status ≢ Status.NoMemory → result.status ≡ Status.TooLong }
+
     // And an image of 1 to 1,048,576 bytes is flashed, another one is too large, and more than
     // 16,777,216 bytes are too long.
     ensures flash_runs { (image : List ℕ)
@@ -279,6 +306,14 @@ pub fn omci<S: Source, K: Sink, D: Disk, L: Link>(
         }
         Some(Command::Check) => {
             let status = show::check(alloc, source, sink);
+            End {
+                status,
+                disk,
+                world: None,
+            }
+        }
+        Some(Command::Filter { filter }) => {
+            let status = filter::filter(alloc, filter, source, sink);
             End {
                 status,
                 disk,

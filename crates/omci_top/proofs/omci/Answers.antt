@@ -4,6 +4,7 @@ use Rattle.omci_top.proofs.TopLemmas.{runs_of, refuses_of, drill_of_words, drill
 use Rattle.omci_top.proofs.OltLemmas.{olt_of_words, olt_runs_of, olt_refuses_of, olt_stops_of}
 use Rattle.omci_top.proofs.UnitLemmas.{unit_of_words, unit_words}
 use Rattle.omci_top.proofs.ShowLemmas.{show_runs_of, show_refuses_of, show_stops_of, check_runs_of, check_refuses_of, check_stops_of}
+use Rattle.omci_top.proofs.FilterLemmas.{filter_of_words, filter_runs_of, filter_refuses_of, filter_stops_of}
 use Rattle.omci_top.proofs.omci.Goals as goal
 
 pub returns-in-Some-Replay-clause-replay_runs : goal.returns-in-Some-Replay-clause-replay_runs
@@ -194,3 +195,41 @@ returns-in-Some-Unit-clause-same_link g c = λ no. absurd (is_called calls_link 
 pub returns-in-Some-Unit-clause-disk_kept : goal.returns-in-Some-Unit-clause-disk_kept
 returns-in-Some-Unit-clause-disk_kept g c = λ other calm.
     absurd (other c.in-Some-Unit.turns (unit_words _ _ _ c.in-Some-Unit.ensures.value c.in-Some-Unit.field-0-is))
+
+-- ---- a filter
+
+pub returns-in-Some-Filter-clause-filter : goal.returns-in-Some-Filter-clause-filter
+returns-in-Some-Filter-clause-filter g c = λ filter words.
+    filter_of_words _ _ c.in-Some-Filter.filter filter _ _ _ _ _ _ _ _ _ c.in-Some-Filter.ensures.value c.in-Some-Filter.field-0-is c.filter-status.ensures.answers words
+
+pub returns-in-Some-Filter-clause-filter_runs : goal.returns-in-Some-Filter-clause-filter_runs
+returns-in-Some-Filter-clause-filter_runs g c = λ filter text bytes words told few is calm_source calm_sink some.
+    filter_runs_of filter _ _ _ _ _ _ _ _ c.filter-status.result
+    (filter_of_words _ _ c.in-Some-Filter.filter filter _ _ _ _ _ _ _ _ _ c.in-Some-Filter.ensures.value c.in-Some-Filter.field-0-is c.filter-status.ensures.answers words)
+    text bytes told few is calm_source calm_sink some
+
+pub returns-in-Some-Filter-clause-filter_refuses : goal.returns-in-Some-Filter-clause-filter_refuses
+returns-in-Some-Filter-clause-filter_refuses g c = λ filter place reason bytes words told few faulty calm_source calm_sink some.
+    filter_refuses_of filter _ _ _ _ _ _ _ _ c.filter-status.result
+    (filter_of_words _ _ c.in-Some-Filter.filter filter _ _ _ _ _ _ _ _ _ c.in-Some-Filter.ensures.value c.in-Some-Filter.field-0-is c.filter-status.ensures.answers words)
+    place reason bytes told few faulty calm_source calm_sink some
+
+pub returns-in-Some-Filter-clause-filter_stops : goal.returns-in-Some-Filter-clause-filter_stops
+returns-in-Some-Filter-clause-filter_stops g c = λ filter bytes words told long calm_source some.
+    filter_stops_of filter _ _ _ _ _ _ _ _ c.filter-status.result
+    (filter_of_words _ _ c.in-Some-Filter.filter filter _ _ _ _ _ _ _ _ _ c.in-Some-Filter.ensures.value c.in-Some-Filter.field-0-is c.filter-status.ensures.answers words)
+    bytes told long calm_source some
+
+pub returns-in-Some-Filter-clause-show_stops : goal.returns-in-Some-Filter-clause-show_stops
+returns-in-Some-Filter-clause-show_stops g c = λ frames bytes words told long has calm_source calm_sink some.
+    let is = c.in-Some-Filter.ensures.value in let which = c.in-Some-Filter.field-0-is in absurd (cc)
+
+pub returns-in-Some-Filter-clause-check_stops : goal.returns-in-Some-Filter-clause-check_stops
+returns-in-Some-Filter-clause-check_stops g c = λ frames bytes words told long has calm_source calm_sink some.
+    let is = c.in-Some-Filter.ensures.value in let which = c.in-Some-Filter.field-0-is in absurd (cc)
+
+pub returns-in-Some-Filter-clause-same_source : goal.returns-in-Some-Filter-clause-same_source
+returns-in-Some-Filter-clause-same_source g c = λ no. absurd (is_called reads_source _ _ _ c.in-Some-Filter.ensures.value c.in-Some-Filter.field-0-is refl no)
+
+pub returns-in-Some-Filter-clause-same_sink : goal.returns-in-Some-Filter-clause-same_sink
+returns-in-Some-Filter-clause-same_sink g c = λ no. absurd (is_called writes_sink _ _ _ c.in-Some-Filter.ensures.value c.in-Some-Filter.field-0-is refl no)
