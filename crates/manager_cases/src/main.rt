@@ -1,0 +1,24 @@
+//! The manager by the lines of the input: an order to it, a packet of its unit or a second on each
+//! line, and the lines of a trace that are wanted of it. It writes each line that has another
+//! answer, and how many there were.
+#![tactic(auto)]
+
+mod asking;
+mod calls;
+mod spelling;
+
+use calls::Calls;
+use case_lines::judge;
+use std::io::{self, Read, Write};
+
+fn main(rt: HostRuntime) -> io::Result<()> {
+    let mut input = Vec::new(rt.alloc());
+    rt.reader().read_to_end(&mut input)?;
+    let Ok(mut calls) = Calls::new(rt.alloc()) else {
+        return println!(rt; "no memory");
+    };
+    match judge(rt.alloc(), &mut calls, &input) {
+        Ok(said) => io::writer(&rt).write_all(said.as_bytes()),
+        Err(_) => println!(rt; "no memory"),
+    }
+}
