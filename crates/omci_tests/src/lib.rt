@@ -13,7 +13,3 @@ mod core_types;
 mod database;
 #[cfg(test)]
 mod frames;
-#[cfg(test)]
-mod orders;
-#[cfg(test)]
-mod script;
