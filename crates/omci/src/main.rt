@@ -1,5 +1,5 @@
 //! The program `omci`: the top call over the words of the command line, standard input, standard
-//! output, a file and a link over UDP.
+//! output, a file and a link over UDP. Where a run isn't done to its end, a line on stderr says why.
 #![tactic(auto)]
 
 use command_lines::words_after;
@@ -7,6 +7,7 @@ use omci_core::{NoMemory, StdSink, StdSource, Words};
 use omci_link::UdpLink;
 use omci_top::{Status, omci};
 use slot_disk::FileDisk;
+use status_words::{place_words, reason_words, status_words};
 use std::alloc::{AllocError, Global};
 use std::env;
 use std::io::{self, ErrorKind};
@@ -58,11 +59,25 @@ fn run(rt: &HostRuntime) -> Result<Status, NoWords> {
     Ok(omci(rt.alloc(), &words, &mut source, &mut sink, disk, &mut link).status)
 }
 
+/// A line on stderr where the work wasn't done to its end: what happened, where, and what to do.
+/// Where it can't be written, the exit status says it alone.
+fn tell<R: Eprint>(rt: &R, status: Status) {
+    let _ = match status {
+        Status::Done => Ok(()),
+        Status::Input { place, reason } => {
+            let (what, why) = (place_words(reason), reason_words(reason));
+            eprintln!(rt; "omci: {what} {place}: {why} (reason {reason})")
+        }
+        _ => eprintln!(rt; "omci: {}", status_words(status.number())),
+    };
+}
+
 fn main(rt: HostRuntime) -> ExitCode {
     let status = match run(&rt) {
         Ok(status) => status,
         Err(NoWords::NotText) => Status::Usage,
         Err(NoWords::NoMemory) => Status::NoMemory,
     };
+    tell(&rt, status);
     ExitCode::from(status.number())
 }
