@@ -1,0 +1,4 @@
+pub mod Moves
+pub mod Commands
+pub mod Jobs
+pub mod Scripts
