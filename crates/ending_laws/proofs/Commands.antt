@@ -5,8 +5,8 @@ use Rattle.omci_types.specs.declared.Priority.TheVariants.{Low, High}
 use Rattle.lane_spec.specs.Lane.{Lane, Waiting, timeout_of}
 use Rattle.manager_spec.specs.Manager.{Manager, lane_in, manager_started}
 use Rattle.ending_spec.specs.Moves.{Move, Probe, Submit, Check, Resync, Audit, Download, Packet, Second, outcome_of, taken_out, after_move, after_moves, seconds_of, seconds_in}
-use Rattle.ending_spec.specs.Commands.{most_seconds, seconds_waited, TellsCommand, CommandEnds}
-use Rattle.ending_laws.proofs.Lanes.{IsLane, IsSound, Stays, Goes, lane_sound, idle_is}
+use Rattle.ending_spec.specs.Commands.{most_seconds, seconds_waited, CommandEnds}
+use Rattle.ending_laws.proofs.Lanes.{TellsCommand, IsLane, IsSound, Stays, Goes, lane_sound, idle_is, stays_same, more_of_more}
 use Rattle.ending_laws.proofs.Calls.{Steady, probe_steady, submit_steady, check_steady, resync_steady, audit_steady, image_steady}
 use Rattle.ending_laws.proofs.Seconds.{second_sound, second_goes}
 use Rattle.ending_laws.proofs.Packets.{packet_steady}
@@ -68,10 +68,10 @@ waited_less High l w h e = less w.repeats w.ticks (h.repeats w e) (h.ticks w e)
     less : (r t : ℕ) → r ≤ 2 → t < 1 → 1 * r + t < 3
     less r t a b = omega (arith, a, b)
 
-too_long : (a b : ℕ) → b < a → a ≤ b + 0 → ⊥
+pub too_long : (a b : ℕ) → b < a → a ≤ b + 0 → ⊥
 too_long a b lt le = omega (arith, lt, le)
 
-less_left : (most a b k rest : ℕ) → b ≡ a + k → most ≤ a + (k + rest) → most ≤ b + rest
+pub less_left : (most a b k rest : ℕ) → b ≡ a + k → most ≤ a + (k + rest) → most ≤ b + rest
 less_left most a b k rest e le = omega (arith, e, le)
 
 pub ends : (lane : Priority) (moves : List Move) (m : Manager) (w : Waiting) → IsSound m
@@ -98,7 +98,43 @@ ends lane (v ∷ rest) m w h e le =
         (less_left (most_seconds lane) (seconds_waited lane w) (seconds_waited lane s.waiting)
         (seconds_of v) (seconds_in rest) s.waited le)))
 
-more : (a b c : ℕ) → a ≤ c → a ≤ b + c
+-- or none of the moves tells its end, and it goes on waiting
+pub goes_on : (lane : Priority) (moves : List Move) (m : Manager) (w : Waiting) → IsSound m
+    → (lane_in lane m).outstanding ≡ Some w
+    → CommandEnds lane w.tci moves m
+    ⊎ Stays lane w (seconds_in moves) (lane_in lane (after_moves moves m))
+goes_on lane [] m w h e = inr (stays_same lane (lane_in lane m) w e)
+goes_on lane (v ∷ rest) m w h e =
+    goes_by (move_goes v m h lane w e)
+    (λ x out. goes_on lane rest (after_move v m) x (after_sound v m h) out)
+  where
+    joined : (s : Stays lane w (seconds_of v) (lane_in lane (outcome_of v m).manager))
+        → CommandEnds lane s.waiting.tci rest (after_move v m)
+        ⊎ Stays lane s.waiting (seconds_in rest) (lane_in lane (after_moves rest (after_move v m)))
+        → CommandEnds lane w.tci (v ∷ rest) m
+        ⊎ Stays lane w (seconds_in (v ∷ rest)) (lane_in lane (after_moves (v ∷ rest) m))
+    joined s (inl told) = inl (inr (subst (λ tci. CommandEnds lane tci rest (after_move v m)) s.tci
+        told))
+    joined s (inr q) = inr (record {
+      waiting = q.waiting;
+      waits = q.waits;
+      tci = q.tci ∙ s.tci;
+      waited = q.waited ∙ more_of_more (seconds_waited lane w) (seconds_waited lane s.waiting)
+          (seconds_of v) (seconds_in rest) s.waited;
+    })
+
+    goes_by : TellsCommand lane w.tci (outcome_of v m)
+        ⊎ Stays lane w (seconds_of v) (lane_in lane (outcome_of v m).manager)
+        → ((x : Waiting) → (lane_in lane (after_move v m)).outstanding ≡ Some x
+        → CommandEnds lane x.tci rest (after_move v m)
+        ⊎ Stays lane x (seconds_in rest) (lane_in lane (after_moves rest (after_move v m))))
+        → CommandEnds lane w.tci (v ∷ rest) m
+        ⊎ Stays lane w (seconds_in (v ∷ rest)) (lane_in lane (after_moves (v ∷ rest) m))
+    goes_by (inl told) later = inl (inl told)
+    goes_by (inr s) later = joined s (later s.waiting
+        (ap (λ l. l.outstanding) (lane_out lane (outcome_of v m).manager) ∙ s.waits))
+
+pub more : (a b c : ℕ) → a ≤ c → a ≤ b + c
 more a b c le = omega (arith, le)
 
 pub all_commands_end : (low high : ℕ) (past moves : List Move) (lane : Priority) (w : Waiting)

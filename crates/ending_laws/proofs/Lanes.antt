@@ -8,7 +8,8 @@ use Rattle.lane_spec.specs.Command.{Command}
 use Rattle.lane_spec.specs.Lane.{Lane, Waiting, timeout_of}
 use Rattle.manager_spec.specs.Manager.{Manager, Outcome, lane_in, with_lane, sends_nothing, and_then, command_sent}
 use Rattle.world_laws.proofs.Likeness.{SameLanes}
-use Rattle.ending_spec.specs.Commands.{seconds_waited, ends_command, TellsCommand}
+use Rattle.ending_spec.specs.Moves.{told_by, is_told}
+use Rattle.ending_spec.specs.Commands.{seconds_waited, ends_command}
 use Rattle.ending_laws.proofs.Told.{KeepsReports, first_told, second_told}
 
 -- what is outstanding in a lane was sent less than its timeout ago, and no more often than it may
@@ -80,6 +81,10 @@ pub record Stays (lane : Priority) (w : Waiting) (seconds : ℕ) (l : Lane) : Ty
   pub tci : waiting.tci ≡ w.tci
   pub waited : seconds_waited lane waiting ≡ seconds_waited lane w + seconds
 
+-- the outcome tells that the command ended
+abbrev pub TellsCommand : Priority → (tci : ℕ) → Outcome → Type 0
+TellsCommand lane tci o = is_told (ends_command lane tci) (told_by o) ≡ true
+
 -- its end is told, or it goes on waiting
 abbrev pub Goes : Priority → (seconds : ℕ) → Manager → Outcome → Type 0
 Goes lane seconds m o = (w : Waiting) → (lane_in lane m).outstanding ≡ Some w
@@ -107,7 +112,7 @@ pub goes_from : (lane : Priority) (seconds : ℕ) (m n : Manager) (o : Outcome)
     → lane_in lane n ≡ lane_in lane m → Goes lane seconds n o → Goes lane seconds m o
 goes_from lane seconds m n o same g = λ w e. g w (ap (λ l. l.outstanding) same ∙ e)
 
-more_of_more : (a b k j : ℕ) → b ≡ a + k → b + j ≡ a + (k + j)
+pub more_of_more : (a b k j : ℕ) → b ≡ a + k → b + j ≡ a + (k + j)
 more_of_more a b k j e = omega (arith, e)
 
 -- one step and then another

@@ -4,3 +4,6 @@ pub mod Calls
 pub mod Seconds
 pub mod Packets
 pub mod Commands
+pub mod Made
+pub mod Lines
+pub mod Scripts

@@ -16,9 +16,9 @@ use Rattle.manager_spec.specs.Steps.{taken_as, after_packet}
 use Rattle.world_laws.proofs.Manager.{freed_lane, meant_by, taken_by, IsTaken, untaken, hearing_is}
 use Rattle.world_laws.proofs.Keeping.{IsTaking, taking_is, IsBeside, is_beside, job_reports}
 use Rattle.ending_spec.specs.Moves.{Replied, is_told}
-use Rattle.ending_spec.specs.Commands.{same_lane, reports_end, ends_command, TellsCommand}
+use Rattle.ending_spec.specs.Commands.{same_lane, reports_end, ends_command}
 use Rattle.ending_laws.proofs.Told.{reports_stay, told_last, reported_told, replied_told}
-use Rattle.ending_laws.proofs.Lanes.{IsSound, Goes, lane_sound, with_sound, same_sound, lane_same, idle_is, goes_same, goes_then}
+use Rattle.ending_laws.proofs.Lanes.{TellsCommand, IsSound, Goes, lane_sound, with_sound, same_sound, lane_same, idle_is, goes_same, goes_then}
 use Rattle.ending_laws.proofs.Calls.{Steady}
 use Rattle.ending_laws.proofs.Seconds.{other_with, job_steady}
 

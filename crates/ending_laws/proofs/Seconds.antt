@@ -18,9 +18,9 @@ use Rattle.manager_spec.specs.Steps.{loss_seen, lane_ticked, tick_lane, tick_lan
 use Rattle.world_laws.proofs.Likeness.{SameLanes}
 use Rattle.world_laws.proofs.Keeping.{KeepsLanes, loss_keeps, job_reports}
 use Rattle.ending_spec.specs.Moves.{Telling, Reported, is_told}
-use Rattle.ending_spec.specs.Commands.{seconds_waited, ends_command, reports_end, TellsCommand}
+use Rattle.ending_spec.specs.Commands.{seconds_waited, ends_command, reports_end}
 use Rattle.ending_laws.proofs.Told.{KeepsReports, reports_stay, reports_grow, told_last, reported_told}
-use Rattle.ending_laws.proofs.Lanes.{IsLane, IsSound, Stays, Goes, lane_sound, with_sound, same_sound, lane_same, idle_is, sent_sound, goes_same, goes_from, goes_then, goes_sent}
+use Rattle.ending_laws.proofs.Lanes.{TellsCommand, IsLane, IsSound, Stays, Goes, lane_sound, with_sound, same_sound, lane_same, idle_is, sent_sound, goes_same, goes_from, goes_then, goes_sent}
 use Rattle.ending_laws.proofs.Calls.{Steady}
 
 -- ---- the job sends what it wants next

@@ -1,13 +1,13 @@
 -- A command that is outstanding in a lane, and within how many seconds its end is told.
-use Rattle.std.specs.Prelude.{◌≡◌, ◌⊎◌, ℕ, ◌+◌, ◌*◌, ◌==◌, Bool, true, false, List, [], ◌∷◌}
+use Rattle.std.specs.Prelude.{ℕ, ◌+◌, ◌*◌, ◌==◌, Bool, true, false, List}
 use Rattle.omci_types.specs.declared.Priority.{Priority}
 use Rattle.omci_types.specs.declared.Priority.TheVariants.{Low, High}
 use Rattle.lane_spec.specs.declared.TheConstants.{MOST_REPEATS}
 use Rattle.lane_spec.specs.Lane.{Waiting, timeout_of}
 use Rattle.manager_spec.specs.declared.Report.{Report}
 use Rattle.manager_spec.specs.declared.Report.TheVariants as report
-use Rattle.manager_spec.specs.Manager.{Manager, Outcome}
-use Rattle.ending_spec.specs.Moves.{Move, outcome_of, after_move, Telling, Replied, Reported, told_by, is_told}
+use Rattle.manager_spec.specs.Manager.{Manager}
+use Rattle.ending_spec.specs.Moves.{Move, Telling, Replied, Reported, AnyTells}
 
 -- The seconds within which a command of a lane ends: its timeout, and once more for each time that
 -- it is sent again. They are 9 in the low lane and 3 in the high lane.
@@ -36,12 +36,6 @@ abbrev pub ends_command : Priority → (tci : ℕ) → Telling → Bool
 ends_command lane tci (Replied other) = same_lane lane other
 ends_command lane tci (Reported what) = reports_end lane tci what
 
--- the outcome tells that the command ended
-abbrev pub TellsCommand : Priority → (tci : ℕ) → Outcome → Type 0
-TellsCommand lane tci o = is_told (ends_command lane tci) (told_by o) ≡ true
-
 -- one of these moves tells that the command ended
 abbrev pub CommandEnds : Priority → (tci : ℕ) → List Move → Manager → Type 0
-CommandEnds lane tci [] m = ⊥
-CommandEnds lane tci (v ∷ rest) m =
-    TellsCommand lane tci (outcome_of v m) ⊎ CommandEnds lane tci rest (after_move v m)
+CommandEnds lane tci moves m = AnyTells (ends_command lane tci) moves m

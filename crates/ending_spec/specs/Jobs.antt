@@ -1,6 +1,6 @@
 -- A job that runs, how many commands it may still send, and within how many seconds its end is
 -- told.
-use Rattle.std.specs.Prelude.{◌≡◌, ◌⊎◌, ℕ, ◌+◌, ◌-◌, ◌*◌, Bool, true, false, List, [], ◌∷◌}
+use Rattle.std.specs.Prelude.{ℕ, ◌+◌, ◌-◌, ◌*◌, Bool, true, false, List}
 use Rattle.omci_types.specs.declared.Priority.TheVariants.{Low}
 use Rattle.window_spec.specs.Outgoing.{Outgoing, new_outgoing, sections_left}
 use Rattle.manager_spec.specs.declared.TheConstants.{MOST_RESENT, MOST_BUSY}
@@ -8,8 +8,8 @@ use Rattle.manager_spec.specs.declared.Job.{Job}
 use Rattle.manager_spec.specs.declared.Job.TheVariants as job
 use Rattle.manager_spec.specs.declared.Report.{Report}
 use Rattle.manager_spec.specs.declared.Report.TheVariants as report
-use Rattle.manager_spec.specs.Manager.{Stage, Probing, Asking, Gathering, AskingAlarms, GatheringRows, StartingImage, SendingImage, EndingImage, DelayingEnd, Manager, Outcome}
-use Rattle.ending_spec.specs.Moves.{Move, outcome_of, after_move, Telling, Replied, Reported, told_by, is_told}
+use Rattle.manager_spec.specs.Manager.{Stage, Probing, Asking, Gathering, AskingAlarms, GatheringRows, StartingImage, SendingImage, EndingImage, DelayingEnd, Manager}
+use Rattle.ending_spec.specs.Moves.{Move, Telling, Replied, Reported, AnyTells}
 use Rattle.ending_spec.specs.Commands.{most_seconds}
 
 -- the most pieces, or rows, that a reply can tell in its two bytes
@@ -74,11 +74,6 @@ abbrev pub ends_job : Job → Telling → Bool
 ends_job j (Replied lane) = false
 ends_job j (Reported what) = reports_job j what
 
--- the outcome tells that the job ended
-abbrev pub TellsJob : Job → Outcome → Type 0
-TellsJob j o = is_told (ends_job j) (told_by o) ≡ true
-
 -- one of these moves tells that the job ended
 abbrev pub JobEnds : Job → List Move → Manager → Type 0
-JobEnds j [] m = ⊥
-JobEnds j (v ∷ rest) m = TellsJob j (outcome_of v m) ⊎ JobEnds j rest (after_move v m)
+JobEnds j moves m = AnyTells (ends_job j) moves m

@@ -1,5 +1,5 @@
 -- What may happen to a manager that is on, one thing after the other, and what it tells of each.
-use Rattle.std.specs.Prelude.{ℕ, ◌+◌, ◌<◌, ◌||◌, Bool, false, List, [], ◌∷◌, ◌++◌, map, slice_index, Option}
+use Rattle.std.specs.Prelude.{◌≡◌, ◌⊎◌, ℕ, ◌+◌, ◌||◌, Bool, true, false, List, [], ◌∷◌, ◌++◌, map, Option}
 use Rattle.omci_types.specs.declared.EntityId.{EntityId}
 use Rattle.omci_types.specs.declared.Priority.{Priority}
 use Rattle.message_spec.specs.declared.Request.{Request}
@@ -75,3 +75,9 @@ told_by o = map Replied o.taken ++ map Reported o.manager.reports
 abbrev pub is_told : {X : Type 0} → (X → Bool) → List X → Bool
 is_told such [] = false
 is_told such (x ∷ rest) = such x || is_told such rest
+
+-- one of these moves tells such
+abbrev pub AnyTells : (Telling → Bool) → List Move → Manager → Type 0
+AnyTells such [] m = ⊥
+AnyTells such (v ∷ rest) m =
+    (is_told such (told_by (outcome_of v m)) ≡ true) ⊎ AnyTells such rest (after_move v m)
