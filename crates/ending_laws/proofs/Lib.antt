@@ -7,3 +7,6 @@ pub mod Commands
 pub mod Made
 pub mod Lines
 pub mod Scripts
+pub mod Stages
+pub mod Replies
+pub mod Sending
