@@ -1,0 +1,4 @@
+pub mod Searches
+pub mod Running
+pub mod Latest
+pub mod Standing
