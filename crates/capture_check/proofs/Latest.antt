@@ -1,7 +1,7 @@
 -- The latest run of a TCI, as the lines before a place tell it, and what one more line does to it.
-use Rattle.std.proofs.Common.{◌≡◌, ◌≢◌, ℕ, zero, suc, ◌<◌, ◌≤◌, Bool, true, false, Option, Some, None, nat_le, ◌&&◌, not, is_some, refl, sym, ap, subst, ◌∙◌, inl, inr, arith, true≢false}
+use Rattle.std.proofs.Common.{◌≡◌, ℕ, suc, ◌<◌, ◌≤◌, Bool, true, false, Option, Some, None, nat_le, ◌&&◌, is_some, refl, sym, ap, subst, ◌∙◌, inl, inr, arith, true≢false}
 use Rattle.std.specs.Prelude.{if◌then◌else◌}
-use Rattle.std.proofs.lemmas.Bool.{cases_eq, cases_lt, and_from, and_parts, and_left, and_right}
+use Rattle.std.proofs.lemmas.Bool.{cases_lt, and_from, and_parts, and_left, and_right}
 use Rattle.tci_spec.specs.Tci.{is_low}
 use Rattle.capture_spec.specs.Places.{or_else, first_place, last_place}
 use Rattle.capture_spec.specs.Runs.{Lines, request_at, starts, asks, answers, is_one_span, is_one_run, asked_before, is_of_run, or_itself, first_request, has_ar, first_with_ar, first_reply}

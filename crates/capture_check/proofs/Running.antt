@@ -1,13 +1,13 @@
 -- Requests of one run.
-use Rattle.std.proofs.Common.{◌≡◌, ◌≢◌, ℕ, zero, suc, ◌<◌, ◌≤◌, Bool, true, false, Option, Some, None, nat_le, ◌&&◌, ◌==◌, not, refl, sym, ap, subst, ◌∙◌, inl, inr, arith, true≢false, le-leb, leb-true, eqb-true, eq-eqb}
+use Rattle.std.proofs.Common.{◌≡◌, ℕ, suc, ◌<◌, ◌≤◌, Bool, true, false, Option, Some, None, nat_le, ◌&&◌, not, refl, sym, ap, subst, ◌∙◌, inl, inr, arith, true≢false, le-leb, leb-true, eqb-true, eq-eqb}
 use Rattle.std.specs.Prelude.{if◌then◌else◌}
-use Rattle.std.proofs.lemmas.Bool.{cases_eq, cases_lt, cases_Bool, and_from, and_parts, and_left, and_right, false_from_ne_true, not-true, not_from_false}
+use Rattle.std.proofs.lemmas.Bool.{cases_eq, cases_lt, and_from, and_parts, and_left, and_right, false_from_ne_true, not-true, not_from_false}
 use Rattle.omci_types.specs.declared.Frame.{Frame}
 use Rattle.tci_spec.specs.Tci.{is_low}
 use Rattle.capture_spec.specs.Places.{any_between, last_place}
-use Rattle.capture_spec.specs.Runs.{Lines, request_at, reply_at, starts, asks, asks_another, answers, has_tci, has_other_tci, is_one_span, is_one_run, asked_before}
+use Rattle.capture_spec.specs.Runs.{Lines, request_at, starts, asks, asks_another, has_tci, has_other_tci, is_one_span, is_one_run, asked_before}
 use Rattle.capture_check.specs.Steps.{is_place}
-use Rattle.capture_check.proofs.Searches.{same_bool, none_each, none_between, some_between, IsLast, last_some, last_none, last_never, last_is}
+use Rattle.capture_check.proofs.Searches.{same_bool, none_each, none_between, IsLast, last_some, last_none, last_never, last_is}
 
 -- ---- spans
 

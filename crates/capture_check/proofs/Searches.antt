@@ -1,5 +1,5 @@
 -- What it says that there is a place with a property, and which is the first or the last one.
-use Rattle.std.proofs.Common.{◌≡◌, ◌≢◌, ℕ, zero, suc, ◌+◌, ◌<◌, ◌≤◌, Bool, true, false, Option, Some, None, nat_le, ◌&&◌, ◌||◌, refl, sym, ap, subst, ◌∙◌, inl, inr, arith, is_some, true≢false, le-leb, leb-true}
+use Rattle.std.proofs.Common.{◌≡◌, ℕ, zero, suc, ◌+◌, ◌<◌, ◌≤◌, Bool, true, false, Option, Some, None, nat_le, ◌&&◌, refl, sym, ap, subst, ◌∙◌, inl, inr, arith, true≢false, le-leb, leb-true}
 use Rattle.std.specs.Prelude.{if◌then◌else◌}
 use Rattle.std.proofs.lemmas.Bool.{cases_eq, cases_Bool, or_parts, or_from, and_left, and_right, true_from_ne_false}
 use Rattle.capture_spec.specs.Places.{any_between, or_else, first_place, last_place, count_places}

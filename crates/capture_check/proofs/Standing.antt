@@ -1,5 +1,5 @@
 -- What is known after some lines is what they say.
-use Rattle.std.proofs.Common.{◌≡◌, ◌≢◌, ℕ, zero, suc, ◌+◌, ◌<◌, ◌≤◌, Bool, true, false, Option, Some, None, nat_le, ◌&&◌, ◌==◌, not, is_some, List, length, get_or, slice_get, slice_set, replicate, refl, sym, ap, subst, ◌∙◌, inl, inr, arith, true≢false, eq-eqb, ne_eqb}
+use Rattle.std.proofs.Common.{◌≡◌, ◌≢◌, ℕ, suc, ◌+◌, ◌<◌, ◌≤◌, Bool, true, false, Option, Some, None, nat_le, ◌==◌, not, is_some, List, length, get_or, slice_get, slice_set, refl, sym, ap, subst, ◌∙◌, inl, inr, arith, eq-eqb, ne_eqb}
 use Rattle.std.specs.Prelude.{if◌then◌else◌}
 use Rattle.std.proofs.lemmas.Bool.{cases_eq}
 use Rattle.std.proofs.lemmas.List.{length-set, length-replicate, get_or-replicate, get_or-set_same, get_or-set_other}
@@ -10,15 +10,15 @@ use Rattle.capture_spec.specs.declared.TheConstants.{TCIS}
 use Rattle.capture_spec.specs.declared.Breach.{Breach}
 use Rattle.capture_spec.specs.declared.CaptureItem.{CaptureItem}
 use Rattle.capture_spec.specs.declared.CaptureItem.TheVariants.{Down, Up, Start}
-use Rattle.capture_spec.specs.Places.{or_else, first_place, last_place, count_places}
+use Rattle.capture_spec.specs.Places.{first_place, last_place, count_places}
 use Rattle.capture_spec.specs.Runs.{Lines, item_of, request_in, reply_in, is_start, request_at, reply_at, starts, has_tci, asks, answers, wants_reply, is_one_run, asked_before, first_with_ar}
 use Rattle.capture_spec.specs.declared.Verdict.TheVariants as verdicts
-use Rattle.capture_spec.specs.Breaches.{verdict, verdict_by, breach_verdict, line_number, unasked, unfit, answered_otherwise, asked_otherwise, breach_at, begins_run, runs, replies, request_unlike, reply_unlike, unfit_to}
+use Rattle.capture_spec.specs.Breaches.{verdict, verdict_by, breach_verdict, line_number, unasked, unfit, answered_otherwise, asked_otherwise, breach_at, begins_run, runs, replies, request_unlike}
 use Rattle.capture_check.specs.declared.checker.Run.{Run}
-use Rattle.capture_check.specs.Steps.{Known, nothing_known, run_in, last_of, live_run, live, continued_run, continued, asked_run, answered_run, with_last, asked, with_reply, answered, started, with_ar_of, reply_breach, request_breach, found_in, taken_in, Fits}
-use Rattle.capture_check.proofs.Searches.{first_found, first_next_out, IsLast, last_some, last_next_in, last_next_out, first_same, count_next, count_le, or_else_none}
+use Rattle.capture_check.specs.Steps.{Known, nothing_known, run_in, last_of, live_run, live, continued_run, continued, asked_run, answered_run, with_last, asked, with_reply, answered, started, reply_breach, request_breach, found_in, taken_in, Fits}
+use Rattle.capture_check.proofs.Searches.{first_found, first_next_out, IsLast, last_some, last_next_in, last_next_out, count_next, count_le, or_else_none}
 use Rattle.capture_check.proofs.Running.{after_start, asks_in, belongs, belongs_none, belongs_never, since_is}
-use Rattle.capture_check.proofs.Latest.{latest_run, run_of, run_with, span_begin, stays, heard, with_heard, IsAsked, Asked, goes_on_with, asked_is, asked_latest}
+use Rattle.capture_check.proofs.Latest.{latest_run, run_of, run_with, span_begin, stays, heard, with_heard, IsAsked, goes_on_with, asked_is, asked_latest}
 
 pub record Stands (lines : Lines) (n : ℕ) (s : Known) : Type 0 where
   pub len : length s.table ≡ TCIS

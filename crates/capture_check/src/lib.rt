@@ -2,8 +2,10 @@
 //! packets alone (ITU-T G.988, clause 11.2.2).
 #![tactic(auto)]
 
-ghost use Rattle.std.specs.Prelude.{◌≡◌, ◌<◌, ◌++◌, [], ◌∷◌, length, slice_get, Some, OnOk, OnErr, IfOk};
+ghost use Rattle.std.specs.Prelude.{◌≡◌, ℕ, Ok, ◌<◌, ◌++◌, [], ◌∷◌, length, slice_get, Some, OnOk, OnErr, IfOk};
+ghost use Rattle.capture_spec.specs.declared.Verdict.TheVariants as verdicts;
 ghost use Rattle.capture_spec.specs.Breaches.{verdict};
+ghost use Rattle.capture_spec.specs.Once.{AnsweredOnce};
 
 mod checker;
 
@@ -79,8 +81,13 @@ fn check_lines(alloc: Global, lines: &[CaptureLine]) -> Result<Verdict, NoMemory
 /// Checks a capture. Says the first line that is a breach, with the least of its kinds, or how many
 /// runs of requests and how many replies there are. Takes memory for the latest run of each TCI, and
 /// goes over the lines once; `NoMemory` where there is none.
+///
+/// Where no line is a breach, the unit answered no request twice differently: two replies of one run
+/// are the same.
 pub fn check_capture(alloc: Global, capture: &Capture) -> Result<Verdict, NoMemory>
     ensures verdict { IfOk result (λ said. said ≡ verdict capture.now) }
+    ensures once { (runs replies : ℕ) → result ≡ Ok (verdicts.Ok runs replies)
+        → AnsweredOnce capture.now }
 {
     check_lines(alloc, &capture.lines)
 }

@@ -1,10 +1,10 @@
-use Rattle.std.proofs.Common.{◌≡◌, ◌<◌, ◌≤◌, ◌+◌, ℕ, length, slice_get, Option, Some, None, refl, sym, ap, subst, ◌∙◌, arith}
+use Rattle.std.proofs.Common.{◌≡◌, ◌<◌, ◌+◌, ℕ, length, slice_get, Some, sym, ap, subst, ◌∙◌, arith}
 use Rattle.capture_spec.specs.declared.CaptureLine.{CaptureLine}
 use Rattle.capture_spec.specs.declared.Breach.{Breach}
 use Rattle.capture_spec.specs.declared.Verdict.TheVariants as verdicts
 use Rattle.capture_spec.specs.Runs.{Lines, item_of}
-use Rattle.capture_spec.specs.Breaches.{number_in, line_number, breach_at, verdict}
-use Rattle.capture_check.specs.Steps.{Known, nothing_known, Fits, found_in, taken_in}
+use Rattle.capture_spec.specs.Breaches.{number_in, line_number, verdict}
+use Rattle.capture_check.specs.Steps.{Known, Fits, found_in}
 use Rattle.capture_check.proofs.Standing.{Stands, no_breach, nothing_stands, no_breach_yet, no_breach_next, stands_next, found_is, few_runs, few_replies, verdict_found, verdict_ok}
 use Rattle.capture_check.proofs.check_lines.Goals as goal
 

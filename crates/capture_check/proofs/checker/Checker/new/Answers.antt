@@ -1,4 +1,4 @@
-use Rattle.std.proofs.Common.{◌≡◌, ℕ, refl, ap, List, Option, Some, None}
+use Rattle.std.proofs.Common.{◌≡◌, refl, ap, List, Option, Some, None}
 use Rattle.capture_check.specs.declared.checker.Run.{Run}
 use Rattle.capture_check.specs.Steps.{Known, nothing_known}
 use Rattle.capture_check.proofs.checker.Checker.new.Goals as goal
