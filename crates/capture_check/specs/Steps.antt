@@ -1,5 +1,6 @@
 -- What the check knows of the lines so far, and what one more line does to it.
-use Rattle.std.specs.Prelude.{ℕ, ◌+◌, ◌==◌, ◌<◌, nat_le, Bool, false, if◌then◌else◌, List, replicate, slice_get, slice_set, Option, Some, None, is_some}
+use Rattle.std.specs.Prelude.{ℕ, ◌+◌, ◌==◌, ◌<◌, nat_le, Bool, false, if◌then◌else◌, List}
+use Rattle.std.specs.Prelude.{replicate, slice_get, slice_set, Option, Some, None, is_some}
 use Rattle.omci_types.specs.declared.Frame.{Frame}
 use Rattle.tci_spec.specs.Tci.{is_low}
 use Rattle.capture_spec.specs.declared.TheConstants.{TCIS}

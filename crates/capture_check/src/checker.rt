@@ -1,11 +1,16 @@
 //! What the check knows of the lines so far: the latest run of each TCI.
 
-ghost use Rattle.std.specs.Prelude.{◌≡◌, ◌+◌, ◌-◌, ◌^◌, ◌<◌, ◌≤◌, length, slice_get, slice_set, Some, None, IfOk};
+ghost use Rattle.std.specs.Prelude.{◌≡◌, ◌+◌, ◌-◌, ◌^◌, ◌<◌, ◌≤◌, length, slice_get, slice_set};
+ghost use Rattle.std.specs.Prelude.{Some, None, IfOk};
 ghost use Rattle.capture_spec.specs.declared.TheConstants.{TCIS};
 ghost use Rattle.capture_spec.specs.declared.Verdict.TheVariants as verdicts;
 ghost use Rattle.capture_spec.specs.Runs.{request_at, reply_at, wants_reply};
-ghost use Rattle.capture_spec.specs.Breaches.{fits, is_same, line_number, unless, unfit_to, reply_unlike, request_unlike};
-ghost use Rattle.capture_check.specs.Steps.{run_in, last_of, live, continued, asked_run, answered_run, reply_breach, request_breach, nothing_known, with_last, asked, answered, started, found_in, taken_in, Fits};
+ghost use Rattle.capture_spec.specs.Breaches.{fits, is_same, line_number, unless, unfit_to};
+ghost use Rattle.capture_spec.specs.Breaches.{reply_unlike, request_unlike};
+ghost use Rattle.capture_check.specs.Steps.{run_in, last_of, live, continued, asked_run};
+ghost use Rattle.capture_check.specs.Steps.{answered_run, reply_breach, request_breach};
+ghost use Rattle.capture_check.specs.Steps.{nothing_known, with_last, asked, answered, started};
+ghost use Rattle.capture_check.specs.Steps.{found_in, taken_in, Fits};
 
 use capture_spec::{AR, Breach, CaptureItem, CaptureLine, TCIS, TYPES, Verdict};
 use omci_core::{NoMemory, Priority, priority_of};
@@ -288,8 +293,8 @@ impl Checker {
         }
     }
 
-    /// The run that a request with a TCI goes on with: the one of this span whose last request is the
-    /// last of its priority.
+    /// The run that a request with a TCI goes on with: the one of this span whose last request is
+    /// the last of its priority.
     #[tactic(auto, unfolding(crate::specs::Steps::continued))]
     fn continued(&self, tci: u16) -> Option<Run>
         ensures { result ≡ continued tci self.now }
@@ -357,8 +362,8 @@ impl Checker {
         self.since = place + 1;
     }
 
-    /// Takes the line at a place, which has this item, after the lines before it. Says what is wrong
-    /// with it.
+    /// Takes the line at a place, which has this item, after the lines before it. Says what is
+    /// wrong with it.
     pub(crate) fn take(
         &mut self,
         lines: &[CaptureLine],

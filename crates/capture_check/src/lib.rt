@@ -1,8 +1,9 @@
-//! The check of a capture: whether a unit answered each run of repeated requests once, told from the
-//! packets alone (ITU-T G.988, clause 11.2.2).
+//! The check of a capture: whether a unit answered each run of repeated requests once, told from
+//! the packets alone (ITU-T G.988, clause 11.2.2).
 #![tactic(auto)]
 
-ghost use Rattle.std.specs.Prelude.{◌≡◌, ℕ, Ok, ◌<◌, ◌++◌, [], ◌∷◌, length, slice_get, Some, OnOk, OnErr, IfOk};
+ghost use Rattle.std.specs.Prelude.{◌≡◌, ℕ, Ok, ◌<◌, ◌++◌, [], ◌∷◌, length, slice_get, Some, OnOk};
+ghost use Rattle.std.specs.Prelude.{OnErr, IfOk};
 ghost use Rattle.capture_spec.specs.declared.Verdict.TheVariants as verdicts;
 ghost use Rattle.capture_spec.specs.Breaches.{verdict};
 ghost use Rattle.capture_spec.specs.Once.{AnsweredOnce};
@@ -79,11 +80,11 @@ fn check_lines(alloc: Global, lines: &[CaptureLine]) -> Result<Verdict, NoMemory
 }
 
 /// Checks a capture. Says the first line that is a breach, with the least of its kinds, or how many
-/// runs of requests and how many replies there are. Takes memory for the latest run of each TCI, and
-/// goes over the lines once; `NoMemory` where there is none.
+/// runs of requests and how many replies there are. Takes memory for the latest run of each TCI,
+/// and goes over the lines once; `NoMemory` where there is none.
 ///
-/// Where no line is a breach, the unit answered no request twice differently: two replies of one run
-/// are the same.
+/// Where no line is a breach, the unit answered no request twice differently: two replies of one
+/// run are the same.
 pub fn check_capture(alloc: Global, capture: &Capture) -> Result<Verdict, NoMemory>
     ensures verdict { IfOk result (λ said. said ≡ verdict capture.now) }
     ensures once { (runs replies : ℕ) → result ≡ Ok (verdicts.Ok runs replies)

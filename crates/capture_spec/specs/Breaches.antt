@@ -1,6 +1,7 @@
 -- Which lines of a capture are breaches, of which of four kinds, and what the check says of all of
 -- them.
-use Rattle.std.specs.Prelude.{ℕ, ◌%◌, ◌==◌, ◌&&◌, not, Bool, true, false, if◌then◌else◌, slice_get, length, Option, Some, None, is_some}
+use Rattle.std.specs.Prelude.{ℕ, ◌%◌, ◌==◌, ◌&&◌, not, Bool, true, false, if◌then◌else◌, slice_get}
+use Rattle.std.specs.Prelude.{length, Option, Some, None, is_some}
 use Rattle.std.specs.Str.{bytes_eq}
 use Rattle.omci_types.specs.declared.Frame.{Frame}
 use Rattle.capture_spec.specs.declared.TheConstants.{TYPES}
@@ -9,7 +10,8 @@ use Rattle.capture_spec.specs.declared.Breach.{Breach}
 use Rattle.capture_spec.specs.declared.Verdict.{Verdict}
 use Rattle.capture_spec.specs.declared.Verdict.TheVariants as verdicts
 use Rattle.capture_spec.specs.Places.{or_else, first_place, count_places}
-use Rattle.capture_spec.specs.Runs.{Lines, request_at, reply_at, wants_reply, is_one_run, asked_before, first_request, first_with_ar, first_reply}
+use Rattle.capture_spec.specs.Runs.{Lines, request_at, reply_at, wants_reply, is_one_run}
+use Rattle.capture_spec.specs.Runs.{asked_before, first_request, first_with_ar, first_reply}
 
 -- whether a reply is of the type and the entity of a request
 abbrev pub fits : Frame → Option Frame → Bool

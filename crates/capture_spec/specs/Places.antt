@@ -1,6 +1,7 @@
--- Places of a list, counted from 0, that have a property: whether there is one, the first, the last,
--- and how many.
-use Rattle.std.specs.Prelude.{ℕ, zero, suc, ◌+◌, nat_le, Bool, false, ◌&&◌, ◌||◌, if◌then◌else◌, Option, Some, None}
+-- Places of a list, counted from 0, that have a property: whether there is one, the first, the
+-- last, and how many.
+use Rattle.std.specs.Prelude.{ℕ, zero, suc, ◌+◌, nat_le, Bool, false, ◌&&◌, ◌||◌, if◌then◌else◌}
+use Rattle.std.specs.Prelude.{Option, Some, None}
 
 -- Whether a place from one up to before another has the property.
 unfoldable pub any_between : (from to : ℕ) → (ℕ → Bool) → Bool

@@ -1,7 +1,8 @@
 -- Requests, replies and starts among the lines of a capture, and which requests and replies are of
 -- one run. Each is said of two lines and of those between them. Lines are named by their places,
 -- counted from 0.
-use Rattle.std.specs.Prelude.{ℕ, suc, ◌%◌, ◌/◌, ◌==◌, ◌&&◌, not, Bool, true, false, if◌then◌else◌, List, slice_get, Option, Some, None}
+use Rattle.std.specs.Prelude.{ℕ, ◌%◌, ◌/◌, ◌==◌, ◌&&◌, not, Bool, true, false, if◌then◌else◌}
+use Rattle.std.specs.Prelude.{List, slice_get, Option, Some, None}
 use Rattle.omci_types.specs.declared.Frame.{Frame}
 use Rattle.tci_spec.specs.Tci.{is_low}
 use Rattle.capture_spec.specs.declared.TheConstants.{AR}

@@ -1,7 +1,7 @@
-//! The check of a capture: two lists of packets between an OLT and a unit, in the order in which they
-//! were seen, are tested for what ITU-T G.988, clause 11.2.2 asks of repeated commands: that they are
-//! answered once. What a run of requests is, which line breaks the rule, and what a capture's text
-//! says. The crate has types, constants and definitions alone.
+//! The check of a capture: the packets between an OLT and a unit, in the order in which they were
+//! seen, are tested for what ITU-T G.988, clause 11.2.2 asks of repeated commands: that they are
+//! answered once. What a run of requests is, which line breaks the rule, what a capture's text says
+//! and what is written of it. The crate has types, constants and definitions alone.
 #![tactic(auto)]
 
 use omci_types::Frame;
