@@ -1,15 +1,6 @@
-//! What each part below the two ends does where no clause says it. The crate has tests alone.
+//! What the crate that all others stand on does where no clause says it, and what of it has no
+//! text: sources and sinks that fail at a call. The crate has tests alone.
 #![tactic(auto)]
 
 #[cfg(test)]
-mod attributes;
-#[cfg(test)]
-mod classes;
-#[cfg(test)]
-mod contents;
-#[cfg(test)]
 mod core_types;
-#[cfg(test)]
-mod database;
-#[cfg(test)]
-mod frames;
