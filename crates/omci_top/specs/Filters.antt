@@ -7,7 +7,7 @@ use Rattle.command_lines.specs.declared.Filter.{Filter}
 use Rattle.command_lines.specs.declared.Filter.TheVariants.{Plan, Meter, Capture}
 use Rattle.PLAN_SPEC.specs.PLAN_MODULE.{plan_text}
 use Rattle.meter_lines_spec.specs.Replies.{meter_text}
-use Rattle.CAPTURE_SPEC.specs.CAPTURE_MODULE.{capture_text}
+use Rattle.capture_spec.specs.Output.{capture_text}
 use Rattle.omci_top.specs.Streams.{ReadsWhole, ReadsPast}
 use Rattle.omci_top.specs.Texts.{input_text}
 use Rattle.omci_top.specs.declared.status.Status.{Status}
