@@ -7,7 +7,7 @@ use Rattle.std.specs.Str.{bytes_eq}
 use Rattle.script_spec.specs.Text.{decimal_value}
 use Rattle.command_lines.specs.declared.numbers.TheConstants.{MOST_DIGITS}
 use Rattle.command_lines.specs.declared.TheConstants.{LARGEST_SEED, MOST_TURNS}
-use Rattle.command_lines.specs.declared.Filter.TheVariants.{Plan, Meter, Capture}
+use Rattle.command_lines.specs.declared.Filter.TheVariants.{Meter, Capture}
 use Rattle.command_lines.specs.declared.Command.{Command}
 use Rattle.command_lines.specs.declared.Command.TheVariants.{Replay, Show, Check, Filter, Flash, Drill, Olt, Unit}
 
@@ -30,8 +30,7 @@ number_of low high word =
 -- the filter of this name
 abbrev pub filter_of : List ℕ → Option Command
 filter_of word =
-    if bytes_eq word (codes "plan") then Some (Filter Plan)
-    else if bytes_eq word (codes "meter") then Some (Filter Meter)
+    if bytes_eq word (codes "meter") then Some (Filter Meter)
     else if bytes_eq word (codes "capture") then Some (Filter Capture)
     else None
 

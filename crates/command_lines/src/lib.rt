@@ -20,8 +20,6 @@ pub const MOST_TURNS: u32 = 1_000_000_000;
 /// A command that makes a text of a text, and calls nothing but the source and the sink.
 #[derive(Clone, Copy, Debug, PartialEq, Eq)]
 pub enum Filter {
-    /// `plan`: the orders that lead from a copy of a unit's database to what it should have.
-    Plan,
     /// `meter`: the replies of interval counters to a list of requests, counts and seconds.
     Meter,
     /// `capture`: whether a unit answered each request of a capture once and rightly.
@@ -37,7 +35,7 @@ pub enum Command {
     Show,
     /// `check`: reads each frame of a stream as a message, and counts them.
     Check,
-    /// `plan`, `meter` or `capture`: reads a text, and writes what the filter makes of it.
+    /// `meter` or `capture`: reads a text, and writes what the filter makes of it.
     Filter { filter: Filter },
     /// `flash FILE`: makes the file a disk of two image slots, with an image in the first. The
     /// file's name is the second word.
@@ -56,11 +54,6 @@ pub enum Command {
 fn filter_of(word: &[u8]) -> Option<Command>
     ensures value { result ≡ filter_of word.now }
 {
-    if word == b"plan".as_slice() {
-        return Some(Command::Filter {
-            filter: Filter::Plan,
-        });
-    }
     if word == b"meter".as_slice() {
         return Some(Command::Filter {
             filter: Filter::Meter,

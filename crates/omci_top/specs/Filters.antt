@@ -4,8 +4,7 @@ use Rattle.std.specs.Io.KnownBytes.{Appends}
 use Rattle.omci_core.specs.Causes.{Rose}
 use Rattle.whole_writes.specs.Writing.{WritesFront}
 use Rattle.command_lines.specs.declared.Filter.{Filter}
-use Rattle.command_lines.specs.declared.Filter.TheVariants.{Plan, Meter, Capture}
-use Rattle.PLAN_SPEC.specs.PLAN_MODULE.{plan_text}
+use Rattle.command_lines.specs.declared.Filter.TheVariants.{Meter, Capture}
 use Rattle.meter_lines_spec.specs.Replies.{meter_text}
 use Rattle.capture_spec.specs.Output.{capture_text}
 use Rattle.omci_top.specs.Streams.{ReadsWhole, ReadsPast}
@@ -17,7 +16,6 @@ use Rattle.omci_top.specs.declared.streams.TheConstants.{LARGEST_INPUT}
 -- what a filter makes of an input: its whole output, or the first fault of the input, by its line
 -- and its reason
 abbrev pub filtered : Filter → List ℕ → Result (List ℕ) (ℕ × ℕ)
-filtered Plan input = plan_text input
 filtered Meter input = meter_text input
 filtered Capture input = capture_text input
 

@@ -1,4 +1,4 @@
-//! The commands `plan`, `meter` and `capture`: a text is read whole, and what is made of it is
+//! The commands `meter` and `capture`: a text is read whole, and what is made of it is
 //! written.
 
 ghost use Rattle.std.specs.Prelude.{◌≡◌};
@@ -20,7 +20,6 @@ fn made(alloc: Global, filter: Filter, input: &[u8]) -> Result<Vec<u8>, ScriptRe
     ensures value { GivesScript (λ text. text.items) result (filtered filter input.now) }
 {
     match filter {
-        Filter::Plan => plan_run::answer(alloc, input),
         Filter::Meter => meter_run::answer(alloc, input),
         Filter::Capture => capture_run::answer(alloc, input),
     }

@@ -57,7 +57,7 @@ pub struct End<D: Disk> {
 /// Does what the words ask for. With `replay` a script is read whole from the source and run over
 /// both ends, and its trace is written to the sink. With `show` a stream of frames of both message
 /// sets is read from the source, and the text of each frame is written; with `check` its frames are
-/// counted. With `plan`, `meter` or `capture` a text is read whole from the source, and what that
+/// counted. With `meter` or `capture` a text is read whole from the source, and what that
 /// filter makes of it is written. With `flash FILE` an image is read whole from the source, and the disk of that name
 /// becomes one of two slots with the image in slot 0. With `drill N` the script that N makes is run
 /// over both ends, and one line that sums its trace up is written. With `olt ADDRESS TURNS` orders

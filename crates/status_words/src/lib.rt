@@ -20,10 +20,9 @@ pub fn status_words(status: u8) -> &'static str {
 }
 
 /// The words of each command, and what it reads.
-const USAGE: &str =
-    "usage: omci replay < SCRIPT, omci show < FRAMES, omci check < FRAMES, omci plan \
-    < COPY, omci meter < COUNTS, omci capture < PACKETS, omci drill N, omci olt \
-    ADDRESS TURNS < ORDERS, omci unit ADDRESS FILE TURNS, omci flash FILE < IMAGE";
+const USAGE: &str = "usage: omci replay < SCRIPT, omci show < FRAMES, omci check < FRAMES, omci \
+    meter < COUNTS, omci capture < PACKETS, omci drill N, omci olt ADDRESS TURNS < \
+    ORDERS, omci unit ADDRESS FILE TURNS, omci flash FILE < IMAGE";
 
 /// Why an input is refused.
 pub fn reason_words(reason: u8) -> &'static str {
@@ -40,12 +39,6 @@ pub fn reason_words(reason: u8) -> &'static str {
         15 => "it gives more than 1,966 contents bytes",
         16 => "its contents end before the message's fields do",
         22 => "the high bits of its type byte are those of no message of its type",
-        31 => "a class that is unknown, or 2 where something is wanted of it",
-        32 => "a mask that has a wrong attribute, or of a copy not all",
-        33 => "values of another length than the mask asks for",
-        34 => "an entity that stands there already",
-        35 => "an entity that only a unit can make is wanted, and the copy hasn't got it",
-        36 => "more than 4,096 entities would stand",
         41 => "its bytes are no baseline frame",
         42 => "its frame doesn't go that way",
         _ => "a fault",

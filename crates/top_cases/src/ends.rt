@@ -58,12 +58,7 @@ impl Ends {
     }
 
     /// A call with these words, whose sink takes so many bytes at a time and fails at these calls.
-    fn run(
-        &mut self,
-        words: &[&str],
-        width: usize,
-        fails: Vec<u64>,
-    ) -> Result<Status, NoMemory> {
+    fn run(&mut self, words: &[&str], width: usize, fails: Vec<u64>) -> Result<Status, NoMemory> {
         let alloc = self.alloc;
         let line = words_of(alloc, words)?;
         let bytes = Vec::from_slice(alloc, &self.outside.bytes)?;
@@ -200,11 +195,13 @@ impl Cases for Ends {
 fn view_text(alloc: Global, view: Option<SlotView>) -> Result<String, NoMemory> {
     match view {
         None => Ok(String::from_str(alloc, "-")?),
-        Some(SlotView {
-            length,
-            crc,
-            version,
-        }) => {
+        Some(
+            SlotView {
+                length,
+                crc,
+                version,
+            },
+        ) => {
             let version = hex_of(alloc, &version)?;
             Ok(format!(in alloc; "{length}:{crc:08x}:{}", version.as_str())?)
         }

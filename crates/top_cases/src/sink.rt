@@ -35,7 +35,6 @@ impl NarrowSink {
             .min(self.width)
             .min(self.room.saturating_sub(self.taken.len()))
     }
-
 }
 
 impl Sink for NarrowSink {

@@ -25,10 +25,7 @@ pub(crate) fn status_text(alloc: Global, status: Status) -> Result<String, NoMem
 }
 
 /// A command by its name and its number.
-pub(crate) fn command_text(
-    alloc: Global,
-    command: Option<Command>,
-) -> Result<String, NoMemory> {
+pub(crate) fn command_text(alloc: Global, command: Option<Command>) -> Result<String, NoMemory> {
     let name = match command {
         None => "usage",
         Some(Command::Replay) => "replay",
@@ -45,7 +42,6 @@ pub(crate) fn command_text(
 
 fn filter_name(filter: Filter) -> &'static str {
     match filter {
-        Filter::Plan => "plan",
         Filter::Meter => "meter",
         Filter::Capture => "capture",
     }
