@@ -1,4 +1,4 @@
-use Rattle.std.proofs.Common.{◌≡◌, Ok, Err, subst, inl}
+use Rattle.std.proofs.Common.{◌≡◌, Ok, Err, subst, sym}
 use Rattle.omci_top.specs.Filters.{filtered}
 use Rattle.omci_top.proofs.FilterLemmas.{filter_ran, filter_told}
 use Rattle.omci_top.proofs.filter.answer.Goals as goal
@@ -6,8 +6,9 @@ use Rattle.omci_top.proofs.filter.answer.Goals as goal
 pub returns-in-Ok : goal.returns-in-Ok
 returns-in-Ok g c = record {
   ends =
-      filter_ran c.args.filter _ _ _ _ c.write_text.result c.in-Ok.text.items c.args.input.items
-      (subst (λ bytes. filtered c.args.filter bytes ≡ Ok c.in-Ok.text.items) c.deref.ensures.value c.in-Ok.ensures.value)
+      filter_ran c.args.filter _ _ _ _ c.write_text.result c.deref-in-Ok.result.now c.args.input.items
+      (subst (λ text. filtered c.args.filter c.args.input.items ≡ Ok text) (sym c.deref-in-Ok.ensures.value)
+      (subst (λ bytes. filtered c.args.filter bytes ≡ Ok c.in-Ok.text.items) c.deref.ensures.value c.in-Ok.ensures.value))
       c.write_text.ensures.ran;
 }
 
