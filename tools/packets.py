@@ -6,7 +6,7 @@ Standard library alone. Formats: docs/CAPTURES.md.
 import struct
 from collections import namedtuple
 
-#: The EtherType, one for local experiments, under which mirrors of an OMCI channel carry its frames.
+#: The EtherType, one for local experiments, under which mirrors of an OMCI channel carry frames.
 MIRROR_ETHERTYPE = 0x88B5
 
 #: A packet of a file: its second, its link type, its bytes, its comments.
