@@ -10,3 +10,5 @@ pub mod Scripts
 pub mod Stages
 pub mod Replies
 pub mod Sending
+pub mod Hearing
+pub mod JobPackets

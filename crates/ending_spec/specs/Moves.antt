@@ -29,6 +29,10 @@ IsMove (Download slot window check image) = IsWindow window
 IsMove (Packet bytes) = AreBytes bytes
 IsMove _ = Unit {0}
 
+abbrev pub AreMoves : List Move → Type 0
+AreMoves [] = Unit {0}
+AreMoves (v ∷ rest) = IsMove v × AreMoves rest
+
 -- what it comes to; a command that is refused comes to nothing
 abbrev pub outcome_of : Move → Manager → Outcome
 outcome_of (Probe lane) m = (after_probe lane m).outcome
