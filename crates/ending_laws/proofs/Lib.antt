@@ -12,3 +12,5 @@ pub mod Replies
 pub mod Sending
 pub mod Hearing
 pub mod JobPackets
+pub mod JobTicks
+pub mod JobSeconds

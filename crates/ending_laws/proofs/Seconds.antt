@@ -80,11 +80,11 @@ resumed_reports _ m = reports_stay m m refl
 -- ---- a lane's second
 
 -- what a lane's second does
-record Ticks (lane : Priority) (m : Manager) (o : Outcome) : Type 0 where
-  sound : IsSound m → IsSound o.manager
-  goes : IsSound m → Goes lane 1 m o
-  other : (l : Priority) → (l ≡ lane) ⊎ (lane_in l o.manager ≡ lane_in l m)
-  reports : KeepsReports m o.manager
+pub record Ticks (lane : Priority) (m : Manager) (o : Outcome) : Type 0 where
+  pub sound : IsSound m → IsSound o.manager
+  pub goes : IsSound m → Goes lane 1 m o
+  pub other : (l : Priority) → (l ≡ lane) ⊎ (lane_in l o.manager ≡ lane_in l m)
+  pub reports : KeepsReports m o.manager
 
 pub other_with : (lane : Priority) (x : Lane) (m : Manager) (l : Priority)
     → (l ≡ lane) ⊎ (lane_in l (with_lane lane x m) ≡ lane_in l m)
@@ -93,15 +93,15 @@ other_with Low x m High = inr refl
 other_with High x m Low = inr refl
 other_with High x m High = inl refl
 
-with_is : (lane : Priority) (x : Lane) (m : Manager) → lane_in lane (with_lane lane x m) ≡ x
+pub with_is : (lane : Priority) (x : Lane) (m : Manager) → lane_in lane (with_lane lane x m) ≡ x
 with_is Low x m = refl
 with_is High x m = refl
 
-with_same : (lane : Priority) (m : Manager) → with_lane lane (lane_in lane m) m ≡ m
+pub with_same : (lane : Priority) (m : Manager) → with_lane lane (lane_in lane m) m ≡ m
 with_same Low m = refl
 with_same High m = refl
 
-with_reports : (lane : Priority) (x : Lane) (m : Manager)
+pub with_reports : (lane : Priority) (x : Lane) (m : Manager)
     → (with_lane lane x m).reports ≡ m.reports
 with_reports Low x m = refl
 with_reports High x m = refl
@@ -157,7 +157,7 @@ module _ (lane : Priority) (w : Waiting) (m : Manager) (e : (lane_in lane m).out
       next a b = omega arith
 
   -- the time is over
-  at_end : nat_le (timeout_of (lane_in lane m).priority) (w.ticks + 1) ≡ true → IsSound m
+  pub at_end : nat_le (timeout_of (lane_in lane m).priority) (w.ticks + 1) ≡ true → IsSound m
       → w.ticks + 1 ≡ timeout_of lane
   at_end over h =
       reached (timeout_of lane) w.ticks (l.ticks w e)
@@ -273,7 +273,7 @@ tick_waiting_ticks : (lane : Priority) (o : Option Waiting) (m : Manager)
 tick_waiting_ticks lane None m e = none_ticks lane m e
 tick_waiting_ticks lane (Some w) m e = tick_by_ticks lane w m e _ _ refl refl
 
-lane_ticks : (lane : Priority) (m : Manager) → Ticks lane m (tick_lane lane m)
+pub lane_ticks : (lane : Priority) (m : Manager) → Ticks lane m (tick_lane lane m)
 unfolding lane_tick
 lane_ticks lane m = tick_waiting_ticks lane (lane_in lane m).outstanding m refl
 
