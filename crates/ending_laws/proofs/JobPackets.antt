@@ -361,9 +361,10 @@ low_taken (Probing true true) f w m e a out does bytes =
     let same = low_lanes f w m s e a out in
     let why = probing_purpose m.low w out a.0 in
     stays_running s (Probing true false) m p
-    (probed_job Low f w (freed_lane Low w m) s e why) refl
-    (low_free f w m s e a out (low_probed true w.command.purpose m.low.proved why),
-    subst IsProbing (sym same.high) a.1)
+    (probed_job Low f w (freed_lane Low w m) s e why) refl (
+      low_free f w m s e a out (low_probed true w.command.purpose m.low.proved why),
+      subst IsProbing (sym same.high) a.1,
+    )
     (max_left (left_of High p.high.outstanding) (left_of High m.high.outstanding)
     (left_of Low m.low.outstanding) (budget (Probing true false))
     (ap (λ l. left_of High l.outstanding) same.high))

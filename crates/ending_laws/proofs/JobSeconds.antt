@@ -273,8 +273,10 @@ module _ (m : Manager) (sound : IsSound m) where
           → Lasts (Probing true true) m two
       second h (inl on) = inr (record {
         is = on.job ∙ h.job ∙ e;
-        awaits = (still_probing Low one two low_one on,
-            subst IsProbing (sym (low_keeps_high one)) (still_probing High m one high h));
+        awaits = (
+          still_probing Low one two low_one on,
+          subst IsProbing (sym (low_keeps_high one)) (still_probing High m one high h),
+        );
         less = both_less (seconds_waited High high.waiting) (seconds_waited Low low_one.waiting)
             (budget (Probing true true))
             (ap (λ l. left_of High l.outstanding) (low_keeps_high one) ∙ left_after High m one high h)
@@ -339,8 +341,10 @@ module _ (m : Manager) (sound : IsSound m) where
           → Lasts (Probing true false) m two
       second h (inl on) = inr (record {
         is = on.job ∙ h.job ∙ e;
-        awaits = (free_after low on,
-            subst IsProbing (sym (low_keeps_high one)) (still_probing High m one high h));
+        awaits = (
+          free_after low on,
+          subst IsProbing (sym (low_keeps_high one)) (still_probing High m one high h),
+        );
         less = high_less (seconds_waited High high.waiting) (budget (Probing true false))
             (ap (λ l. left_of High l.outstanding) (low_keeps_high one) ∙ left_after High m one high h)
             (ap (left_of High) high.waits)
