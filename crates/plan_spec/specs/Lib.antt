@@ -1,0 +1,3 @@
+pub mod Wanting
+pub mod Steps
+pub mod Carrying
