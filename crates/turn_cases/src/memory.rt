@@ -2,6 +2,7 @@
 
 use crate::words::{done_text, next_text, say};
 use case_lines::{NoMemory, bytes_of, hex_of, u64_of};
+use omci_core::MAX_PACKET_BYTES;
 use omci_link::{Link, MemLink};
 use std::alloc::Global;
 
@@ -68,6 +69,9 @@ pub(crate) fn any_answer<L: Link>(
         ["next"] => next_text(alloc, link),
         ["send", bytes] => {
             let bytes = bytes_of(alloc, bytes)?;
+            if bytes.len() > MAX_PACKET_BYTES {
+                return say(alloc, "too long for a packet");
+            }
             let done = link.send(&bytes);
             done_text(alloc, done)
         }
