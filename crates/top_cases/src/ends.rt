@@ -195,14 +195,9 @@ impl Cases for Ends {
 fn view_text(alloc: Global, view: Option<SlotView>) -> Result<String, NoMemory> {
     match view {
         None => Ok(String::from_str(alloc, "-")?),
-        Some(
-            SlotView {
-                length,
-                crc,
-                version,
-            },
-        ) => {
-            let version = hex_of(alloc, &version)?;
+        Some(view) => {
+            let version = hex_of(alloc, &view.version)?;
+            let (length, crc) = (view.length, view.crc);
             Ok(format!(in alloc; "{length}:{crc:08x}:{}", version.as_str())?)
         }
     }

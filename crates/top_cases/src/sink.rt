@@ -1,6 +1,6 @@
 //! A sink that takes a few bytes a call, up to its room, and whose failing calls are chosen.
 
-ghost use Rattle.std.specs.Prelude.{None};
+ghost use Rattle.std.specs.Prelude.{◌≤◌, None};
 
 use omci_core::{Failed, Sink};
 use std::alloc::Global;
@@ -30,7 +30,9 @@ impl NarrowSink {
     }
 
     /// How many of so many bytes the next call takes.
-    fn share(&self, count: usize) -> usize {
+    fn share(&self, count: usize) -> usize
+        ensures few { result ≤ count }
+    {
         count
             .min(self.width)
             .min(self.room.saturating_sub(self.taken.len()))
