@@ -148,7 +148,7 @@ none_taken purpose.Job l c f m e =
 
 -- ---- a stage that a lane's reply leaves alone
 
-abbrev Unprobed : Stage → Type 0
+abbrev pub Unprobed : Stage → Type 0
 Unprobed (Probing high low) = high ≡ false
 Unprobed _ = Unit {0}
 
@@ -459,7 +459,7 @@ freed_job : (l : Priority) (w : Waiting) (m : Manager) → (freed_lane l w m).jo
 freed_job Low w m = refl
 freed_job High w m = refl
 
-some_none : (s : Stage) → None ≡ Some s → ⊥
+pub some_none : (s : Stage) → None ≡ Some s → ⊥
 some_none s e = cc
 
 none_beside : (m n : Manager) → m.job ≡ None → Beside m n → n.job ≡ None

@@ -14,3 +14,5 @@ pub mod Hearing
 pub mod JobPackets
 pub mod JobTicks
 pub mod JobSeconds
+pub mod JobCalls
+pub mod Jobs

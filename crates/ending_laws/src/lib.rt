@@ -1,4 +1,5 @@
-//! Laws that every command of the manager ends, whatever comes, proved of the definitions alone.
+//! Laws that every command and every job of the manager ends, whatever comes, proved of the
+//! definitions alone.
 //! Each function does nothing: what it ensures is the law, and a caller's proof may cite it.
 #![tactic(auto)]
 
@@ -6,10 +7,12 @@ ghost use Rattle.std.specs.Prelude.{◌≡◌, ℕ, ◌≤◌, List, Some};
 ghost use Rattle.omci_types.specs.declared.Priority.{Priority};
 ghost use Rattle.script_spec.specs.Script.{Header, Action};
 ghost use Rattle.lane_spec.specs.Lane.{Waiting};
-ghost use Rattle.manager_spec.specs.Manager.{Manager, lane_in, manager_started};
+ghost use Rattle.manager_spec.specs.Manager.{Stage, Manager, lane_in, manager_started};
 ghost use Rattle.world_spec.specs.Nodes.{first_nodes, nodes_after};
-ghost use Rattle.ending_spec.specs.Moves.{Move, after_moves, seconds_in};
+ghost use Rattle.manager_spec.specs.Jobs.{job_of};
+ghost use Rattle.ending_spec.specs.Moves.{Move, AreMoves, after_moves, seconds_in};
 ghost use Rattle.ending_spec.specs.Commands.{most_seconds, CommandEnds};
+ghost use Rattle.ending_spec.specs.Jobs.{seconds_left, JobEnds};
 ghost use Rattle.ending_spec.specs.Scripts.{ticks_in, StaysOn, CommandEndsIn};
 
 /// Whatever has happened to a manager since it started, and whatever happens next, be it packets
@@ -33,4 +36,14 @@ pub fn commands_of_scripts_end()
         → (lane_in lane m).outstanding ≡ Some w → StaysOn lines
         → most_seconds lane ≤ ticks_in lines
         → CommandEndsIn lane w.tci lines (nodes_after past (first_nodes h)) }
+{}
+
+/// Whatever has happened to a manager since it started, and whatever happens next: a job that runs
+/// ends, well or not, and reports it, before the seconds of its stage have passed. `seconds_left`
+/// says how many these are.
+pub fn jobs_end()
+    ensures { (low high : ℕ) (past moves : List Move) (s : Stage) → AreMoves past → AreMoves moves
+        → (after_moves past (manager_started low high)).job ≡ Some s
+        → seconds_left s ≤ seconds_in moves
+        → JobEnds (job_of s) moves (after_moves past (manager_started low high)) }
 {}
